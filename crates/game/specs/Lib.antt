@@ -1,0 +1,9 @@
+pub mod Clash
+pub mod Rules
+pub mod Rule
+pub mod Game
+pub mod Plays
+pub mod Compares
+pub mod Limits
+pub mod Stored
+pub mod Working

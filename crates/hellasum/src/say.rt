@@ -1,0 +1,61 @@
+// Answers as the program prints them.
+use game::clash::AnyClash;
+use rates::fault::LatticeFault;
+use rates::fault::Layer;
+use rates::fault::Place;
+use sheet::answer::Costs;
+use sheet::answer::Entry;
+use sheet::fault::SheetFault;
+use std::io;
+
+fn layer_name(layer: Layer) -> &'static str {
+    match layer {
+        Layer::Lattice => "lattice",
+        Layer::Sheet => "sheet",
+    }
+}
+
+fn refused(rt: &LibcRuntime, number: u32, place: Place) -> io::Result<()> {
+    let at = place.at;
+    let layer = layer_name(place.layer);
+    println!(rt, "refused {number} {at} {layer}")
+}
+
+pub fn refused_lattice(rt: &LibcRuntime, fault: LatticeFault) -> io::Result<()> {
+    refused(rt, fault.number(), fault.place())
+}
+
+pub fn refused_call(rt: &LibcRuntime, fault: SheetFault) -> io::Result<()> {
+    refused(rt, fault.number(), fault.place())
+}
+
+pub fn nodes(rt: &LibcRuntime, count: usize) -> io::Result<()> {
+    println!(rt, "nodes {count}")
+}
+
+pub fn first_worked(rt: &LibcRuntime, answer: Result<usize, SheetFault>) -> io::Result<()> {
+    match answer {
+        Ok(w) => println!(rt, "w {w}"),
+        Err(fault) => refused_call(rt, fault),
+    }
+}
+
+pub fn entry(rt: &LibcRuntime, answer: Result<Entry, SheetFault>) -> io::Result<()> {
+    match answer {
+        Ok(Entry { figure, mark }) => println!(rt, "figure {figure} mark {mark}"),
+        Err(fault) => refused_call(rt, fault),
+    }
+}
+
+pub fn costs(rt: &LibcRuntime, costs: Costs) -> io::Result<()> {
+    let Costs { call, put } = costs;
+    println!(rt, "call {call} put {put}")
+}
+
+pub fn clash(rt: &LibcRuntime, rule: AnyClash) -> io::Result<()> {
+    rt.println(match rule {
+        AnyClash::PutPrevails => "clash put",
+        AnyClash::CallPrevails => "clash call",
+        AnyClash::Halfway => "clash halfway",
+    })
+}

@@ -1,0 +1,4 @@
+pub mod Rounding
+pub mod Laws
+pub mod Overs
+pub mod Tables

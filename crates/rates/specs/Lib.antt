@@ -1,0 +1,5 @@
+pub mod Model
+pub mod Refusals
+pub mod Formulas
+pub mod Checks
+pub mod Kinds
