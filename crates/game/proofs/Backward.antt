@@ -65,13 +65,13 @@ module _ (m : Model) (σ : ℕ → ℕ → ℕ) (b : Terms) (s : ℕ) where
     found-is j i =
         ⊎-elim
         (λ (l : m .steps < w).
-            let e : 0 ≡ m .steps - start m w = omega arith in
-            found-none w values j l ∙ ap (λ d. figure-from m σ b s (redeemed b) d (start m w) j) e)
+        let e : 0 ≡ m .steps - start m w = omega arith in
+        found-none w values j l ∙ ap (λ d. figure-from m σ b s (redeemed b) d (start m w) j) e)
         (λ (l : w ≤ m .steps).
-            let e : w ≡ start m w = omega arith in
-            found-some w values j l
-            ∙ done .figures-are w j (omega arith) l (omega (arith, ap (m .count) e))
-            ∙ ap (λ v. figure-from m σ b s (redeemed b) (m .steps - v) v j) e)
+        let e : w ≡ start m w = omega arith in
+        found-some w values j l
+        ∙ done .figures-are w j (omega arith) l (omega (arith, ap (m .count) e))
+        ∙ ap (λ v. figure-from m σ b s (redeemed b) (m .steps - v) v j) e)
         (cases-lt (m .steps) w)
 
     pub back-figure-is : (t j : ℕ) → t < w → t ≤ m .steps → j < m .count t → back-figure m σ b s w values t j ≡ figure m σ b s t j
@@ -126,12 +126,12 @@ module _ (m : Model) (laws : Lawful m) (σ : ℕ → ℕ → ℕ) (fair : Fair �
   back-small w values t j r h =
       ⊎-elim
       (λ (l : t < m .steps).
-          let d = start m w - (t + 1) in
-          let e : start m w - t ≡ suc d = omega arith in
-          omega (arith, ap (λ n. figure-from m σ b s (found m b w values) n t j) e, figure-small (found m b w values) d t j))
+      let d = start m w - (t + 1) in
+      let e : start m w - t ≡ suc d = omega arith in
+      omega (arith, ap (λ n. figure-from m σ b s (found m b w values) n t j) e, figure-small (found m b w values) d t j))
       (λ (l : m .steps ≤ t).
-          let e : start m w - t ≡ 0 = omega arith in
-          omega (arith, ap (λ n. figure-from m σ b s (found m b w values) n t j) e, found-none m σ b s w values j (omega arith)))
+      let e : start m w - t ≡ 0 = omega arith in
+      omega (arith, ap (λ n. figure-from m σ b s (found m b w values) n t j) e, found-none m σ b s w values j (omega arith)))
       (cases-lt t (m .steps))
 
 pub none-over : (f : ℕ → ℕ) (a n : ℕ) → ((j : ℕ) → f j ≤ 650000000) → over (map f (counting a n)) ≡ false

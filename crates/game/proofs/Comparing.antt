@@ -81,9 +81,9 @@ without-calls b s = record {
   puts = λ t. put-self (right b Put t);
 }
   where
-  none : (r : Option Right) → Call-under r None
-  none None = tt
-  none (Some r) = tt
+    none : (r : Option Right) → Call-under r None
+    none None = tt
+    none (Some r) = tt
 
 without-puts : (b : Terms) (s : ℕ) → Worth-less (without Put b) s b s
 without-puts b s = record {

@@ -63,18 +63,18 @@ module _ (m : Model) (f : ℕ → ℕ → ℕ) where
   laid-at rest (suc n) t u j i a c h e =
       ap (λ xs. getD xs i 0) (append-assoc (step-row m f t) (laid m f (t + 1) n) rest)
       ∙ ⊎-elim
-          (λ (l : t < u).
-              let o = offset-within m t u l in
-              getD-append-right (step-row m f t) (laid m f (t + 1) n ++ rest) (m .count t) i 0 (step-length t) (omega arith)
-              ∙ laid-at rest n (t + 1) u j (i - m .count t) (omega arith) (omega arith) h (omega (arith, offset-more m t)))
-          (λ (l : u ≤ t).
-              let q : u ≡ t = omega arith in
-              let k : i ≡ j = omega (arith, ap (offset m) q) in
-              let w : i < m .count t = omega (arith, ap (m .count) q) in
-              getD-append-left (step-row m f t) (laid m f (t + 1) n ++ rest) 0 i (omega (arith, step-length t))
-              ∙ getD-map-counting (f t) 0 (m .count t) i j 0 w (omega arith)
-              ∙ ap (λ v. f v j) (sym q))
-          (cases-lt t u)
+      (λ (l : t < u).
+      let o = offset-within m t u l in
+      getD-append-right (step-row m f t) (laid m f (t + 1) n ++ rest) (m .count t) i 0 (step-length t) (omega arith)
+      ∙ laid-at rest n (t + 1) u j (i - m .count t) (omega arith) (omega arith) h (omega (arith, offset-more m t)))
+      (λ (l : u ≤ t).
+      let q : u ≡ t = omega arith in
+      let k : i ≡ j = omega (arith, ap (offset m) q) in
+      let w : i < m .count t = omega (arith, ap (m .count) q) in
+      getD-append-left (step-row m f t) (laid m f (t + 1) n ++ rest) 0 i (omega (arith, step-length t))
+      ∙ getD-map-counting (f t) 0 (m .count t) i j 0 w (omega arith)
+      ∙ ap (λ v. f v j) (sym q))
+      (cases-lt t u)
 
   -- the nodes of the rewritten steps
   pub rewritten-here : (row : List ℕ) (n t u j : ℕ) → offset m t ≤ length row → t ≤ u → u < t + n → j < m .count u → stored m (rewritten m row f t n) u j ≡ f u j

@@ -34,12 +34,12 @@ pub tested-none : (o : Option SheetFault) → tested o ≡ Ok tt → o ≡ None
 tested-none None e = refl
 tested-none (Some f) e = absurd (let z : _≡_ {A = ℕ} 0 1 = cc in omega arith)
 
-pub edit-made : (m : Model) (σ : ℕ → ℕ → ℕ) (e : Edit) (s s′ : State) (n : ℕ) → n ≡ m .steps → edit-fault n s e ≡ None → s′ ≡ edited n s e → Edited m σ e s (Ok (s′ .first)) s′
-edit-made m σ e s s′ n last none is =
+pub edit-made : (m : Model) (σ : ℕ → ℕ → ℕ) (e : Edit) (s s′ : State) (n w : ℕ) → n ≡ m .steps → edit-fault n s e ≡ None → s′ ≡ edited n s e → w ≡ s′ .first → Edited m σ e s (Ok w) s′
+edit-made m σ e s s′ n w last none is first =
     let none′ : edit-fault (m .steps) s e ≡ None = ap (λ k. edit-fault k s e) (sym last) ∙ none in
     let is′ : s′ ≡ edited (m .steps) s e = is ∙ ap (λ k. edited k s e) last in
     record {
-      answers = ap (λ (x : State). accepted (x .first)) is′ ∙ ap (λ o. answer o (edited (m .steps) s e .first)) (sym none′);
+      answers = ap accepted (first ∙ ap (λ (x : State). x .first) is′) ∙ ap (λ o. answer o (edited (m .steps) s e .first)) (sym none′);
       leaves = is′ ∙ ap (λ o. unless o (edited (m .steps) s e) s) (sym none′);
       keeps = λ values marks st. subst (λ x. Standing m σ x values marks) (sym is′) (edit-stands m σ s values marks e none′ st);
     }
@@ -107,11 +107,11 @@ module _ (m : Model) (laws : Lawful m) (σ : ℕ → ℕ → ℕ) (fair : Fair �
         let room = rows-long m values marks long in
         let stands : Standing m σ s values marks → Standing m σ (record { terms = s .terms; spread = s .spread; first = s .first - k }) values′ marks′ =
         λ st.
-            let early = st .early in
-            record {
-              early = omega arith;
-              worked = subst (λ x. Worked m σ (s .terms) (s .spread) (s .first - k) x marks′) (sym ev) (subst (λ y. Worked m σ (s .terms) (s .spread) (s .first - k) (back-values m σ (s .terms) (s .spread) (s .first) k values) y) (sym em) (back-keeps m σ (s .terms) (s .spread) (s .first) values marks (st .worked) k (omega arith) (omega (arith, room .0)) (omega (arith, room .1))));
-            } in
+        let early = st .early in
+        record {
+          early = omega arith;
+          worked = subst (λ x. Worked m σ (s .terms) (s .spread) (s .first - k) x marks′) (sym ev) (subst (λ y. Worked m σ (s .terms) (s .spread) (s .first - k) (back-values m σ (s .terms) (s .spread) (s .first) k values) y) (sym em) (back-keeps m σ (s .terms) (s .spread) (s .first) values marks (st .worked) k (omega arith) (omega (arith, room .0)) (omega (arith, room .1))));
+        } in
         record {
           answers = ap accepted low ∙ ap (λ o. answer o (s .first - n)) (sym none);
           leaves = ap (λ i. record { terms = s .terms; spread = s .spread; first = i }) low ∙ ap (λ o. unless o (worked-back s n) s) (sym none);

@@ -29,14 +29,14 @@ use Rattle.sheet.proofs.Validity.{coupon-passed, right-passed, cancel-passed}
 right-alike : (kind : Kind) (b : Terms) (t w : ℕ) (r : Option Right) → t < w → Alike w b (set-right kind b t r)
 right-alike Call b t w r h = record { redemption = refl; coupons = λ u l. refl; rights = rights }
   where
-  rights : (kind : Kind) (u : ℕ) → w ≤ u → right b kind u ≡ right (set-right Call b t r) kind u
-  rights Call u l = let ne : u ≢ t = omega arith in sym (rw getD-set-other)
-  rights Put u l = refl
+    rights : (kind : Kind) (u : ℕ) → w ≤ u → right b kind u ≡ right (set-right Call b t r) kind u
+    rights Call u l = let ne : u ≢ t = omega arith in sym (rw getD-set-other)
+    rights Put u l = refl
 right-alike Put b t w r h = record { redemption = refl; coupons = λ u l. refl; rights = rights }
   where
-  rights : (kind : Kind) (u : ℕ) → w ≤ u → right b kind u ≡ right (set-right Put b t r) kind u
-  rights Call u l = refl
-  rights Put u l = let ne : u ≢ t = omega arith in sym (rw getD-set-other)
+    rights : (kind : Kind) (u : ℕ) → w ≤ u → right b kind u ≡ right (set-right Put b t r) kind u
+    rights Call u l = refl
+    rights Put u l = let ne : u ≢ t = omega arith in sym (rw getD-set-other)
 
 module _ (m : Model) (σ : ℕ → ℕ → ℕ) (s : State) (values marks : List ℕ) where
   pub edit-stands : (e : Edit) → edit-fault (m .steps) s e ≡ None → Standing m σ s values marks → Standing m σ (edited (m .steps) s e) values marks
@@ -45,12 +45,12 @@ module _ (m : Model) (σ : ℕ → ℕ → ℕ) (s : State) (values marks : List
       let early = st .early in
       record { early = omega arith; worked = edit-keeps m σ (s .spread) (s .first) (max (s .first) t) (s .terms) _ values marks (omega arith) alike (st .worked) }
     where
-    alike : Alike (max (s .first) t) (s .terms) (edited (m .steps) s (Coupon t amount) .terms)
-    alike = record { redemption = refl; coupons = λ u l. let ne : u ≢ t = omega arith in sym (rw getD-set-other); rights = rights }
-      where
-      rights : (kind : Kind) (u : ℕ) → max (s .first) t ≤ u → right (s .terms) kind u ≡ right (edited (m .steps) s (Coupon t amount) .terms) kind u
-      rights Call u l = refl
-      rights Put u l = refl
+      alike : Alike (max (s .first) t) (s .terms) (edited (m .steps) s (Coupon t amount) .terms)
+      alike = record { redemption = refl; coupons = λ u l. let ne : u ≢ t = omega arith in sym (rw getD-set-other); rights = rights }
+        where
+          rights : (kind : Kind) (u : ℕ) → max (s .first) t ≤ u → right (s .terms) kind u ≡ right (edited (m .steps) s (Coupon t amount) .terms) kind u
+          rights Call u l = refl
+          rights Put u l = refl
   edit-stands (Enter kind t price notice) none st =
       let within = right-passed (m .steps) t price notice none .within in
       let early = st .early in
@@ -68,5 +68,5 @@ module _ (m : Model) (σ : ℕ → ℕ → ℕ) (s : State) (values marks : List
   pub best-stored : Lawful m → Fair σ → Standing m σ s values marks → Best-stored m σ s values marks
   best-stored laws fair st = best-play m laws σ fair (s .terms) (s .spread) (s .first) (stored m values) (stored m marks) (st .worked .figures-are) (st .worked .marks-are)
 
-pub opened-stands : (m : Model) (σ : ℕ → ℕ → ℕ) (values marks : List ℕ) → Standing m σ (opened (m .steps)) values marks
-opened-stands m σ values marks = record { early = omega arith; worked = none-worked m σ _ 0 (m .steps + 1) values marks (omega arith) }
+pub opened-stands : (m : Model) (σ : ℕ → ℕ → ℕ) (n : ℕ) → n ≡ m .steps → (values marks : List ℕ) → Standing m σ (opened n) values marks
+opened-stands m σ n e values marks = record { early = omega arith; worked = none-worked m σ (opened n .terms) 0 (n + 1) values marks (omega arith) }

@@ -31,31 +31,31 @@ module _ (m : Model) (σ : ℕ → ℕ → ℕ) (b : Terms) (s w : ℕ) (values 
     stepped-figure-is j =
         ⊎-elim
         (λ (l : t < m .steps).
-            let d = start m w - (t + 1) in
-            let e : suc d ≡ start m w - t = omega arith in
-            cond-true (ltb t (m .steps)) _ _ (lt-ltb t (m .steps) l)
-            ∙ figure-step m σ b s (found m b w values) d t j row holds
-            ∙ ap (λ k. figure-from m σ b s (found m b w values) k t j) e)
+        let d = start m w - (t + 1) in
+        let e : suc d ≡ start m w - t = omega arith in
+        cond-true (ltb t (m .steps)) _ _ (lt-ltb t (m .steps) l)
+        ∙ figure-step m σ b s (found m b w values) d t j row holds
+        ∙ ap (λ k. figure-from m σ b s (found m b w values) k t j) e)
         (λ (l : m .steps ≤ t).
-            let e : 0 ≡ start m w - t = omega arith in
-            cond-false (ltb t (m .steps)) _ _ (le-ltb t (m .steps) l)
-            ∙ sym (found-none m σ b s w values j (omega arith))
-            ∙ ap (λ k. figure-from m σ b s (found m b w values) k t j) e)
+        let e : 0 ≡ start m w - t = omega arith in
+        cond-false (ltb t (m .steps)) _ _ (le-ltb t (m .steps) l)
+        ∙ sym (found-none m σ b s w values j (omega arith))
+        ∙ ap (λ k. figure-from m σ b s (found m b w values) k t j) e)
         (cases-lt t (m .steps))
 
     pub stepped-mark-is : (j : ℕ) → stepped-mark m σ b s t (λ i. getD row i 0) j ≡ back-mark m σ b s w values t j
     stepped-mark-is j =
         ⊎-elim
         (λ (l : t < m .steps).
-            let d = start m w - (t + 1) in
-            let e : suc d ≡ start m w - t = omega arith in
-            cond-true (ltb t (m .steps)) _ _ (lt-ltb t (m .steps) l)
-            ∙ mark-step m σ b s (found m b w values) d t j row holds
-            ∙ ap (λ k. mark-from m σ b s (found m b w values) k t j) e)
+        let d = start m w - (t + 1) in
+        let e : suc d ≡ start m w - t = omega arith in
+        cond-true (ltb t (m .steps)) _ _ (lt-ltb t (m .steps) l)
+        ∙ mark-step m σ b s (found m b w values) d t j row holds
+        ∙ ap (λ k. mark-from m σ b s (found m b w values) k t j) e)
         (λ (l : m .steps ≤ t).
-            let e : 0 ≡ start m w - t = omega arith in
-            cond-false (ltb t (m .steps)) _ _ (le-ltb t (m .steps) l)
-            ∙ ap (λ k. mark-from m σ b s (found m b w values) k t j) e)
+        let e : 0 ≡ start m w - t = omega arith in
+        cond-false (ltb t (m .steps)) _ _ (le-ltb t (m .steps) l)
+        ∙ ap (λ k. mark-from m σ b s (found m b w values) k t j) e)
         (cases-lt t (m .steps))
 
   -- the row found at the first worked step

@@ -100,9 +100,9 @@ edited-valid n s (Coupon t amount) few none v =
     let early = v .early in
     record { early = omega arith; narrow = v .narrow; redeemable = v .redeemable; payable = kept-by-set (λ _ x. x ≤ 10000000) (s .terms .coupons) t amount 0 (fits .small) (v .payable); priced = priced }
   where
-  priced : Priced (edited n s (Coupon t amount) .terms)
-  priced Call u = v .priced Call u
-  priced Put u = v .priced Put u
+    priced : Priced (edited n s (Coupon t amount) .terms)
+    priced Call u = v .priced Call u
+    priced Put u = v .priced Put u
 edited-valid n s (Enter kind t price notice) few none v =
     let fits = right-passed n t price notice none in
     let within = fits .within in
@@ -130,9 +130,9 @@ edited-valid n s (Cancel kind t) few none v =
 edited-valid n s (Redeem amount) few none v =
     record { early = omega arith; narrow = v .narrow; redeemable = amount-passed 0 amount none; payable = v .payable; priced = priced }
   where
-  priced : Priced (edited n s (Redeem amount) .terms)
-  priced Call u = v .priced Call u
-  priced Put u = v .priced Put u
+    priced : Priced (edited n s (Redeem amount) .terms)
+    priced Call u = v .priced Call u
+    priced Put u = v .priced Put u
 edited-valid n s (Respread spread) few none v =
     let early = v .early in
     record { early = omega arith; narrow = spread-passed spread none; redeemable = v .redeemable; payable = v .payable; priced = v .priced }
@@ -146,6 +146,6 @@ opened-valid n few = record {
   priced = priced;
 }
   where
-  priced : Priced (opened n .terms)
-  priced Call t = ap (right-fits t) (all-same 64 None t)
-  priced Put t = ap (right-fits t) (all-same 64 None t)
+    priced : Priced (opened n .terms)
+    priced Call t = ap (right-fits t) (all-same 64 None t)
+    priced Put t = ap (right-fits t) (all-same 64 None t)

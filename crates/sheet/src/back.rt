@@ -14,7 +14,7 @@ use game::terms::Terms;
 use lattice::Lattice;
 
 // Where the entries of step `t` begin.
-pub fn offset<L: Lattice>(lattice: &L, t: usize) -> usize
+pub(crate) fn offset<L: Lattice>(lattice: &L, t: usize) -> usize
     requires { ⌜ t ≤ 65 ⌝ }
     ensures { λ r. ⌜ r ≡ offset-of (L·Lattice .model (now (lattice .entry))) t ⌝ }
 {
@@ -60,7 +60,16 @@ fn over_limit(row: &[u32]) -> bool
 }
 
 // Works the `n` steps below the first worked one. A step with a figure above 650,000,000 is refused.
-pub fn work_back<L: Lattice, K: ClashRule>(lattice: &L, clash: &K, terms: &Terms, spread: u32, first: usize, n: usize, values: &mut [u32], marks: &mut [u8]) -> Result<(), usize>
+pub(crate) fn work_back<L: Lattice, K: ClashRule>(
+    lattice: &L,
+    clash: &K,
+    terms: &Terms,
+    spread: u32,
+    first: usize,
+    n: usize,
+    values: &mut [u32],
+    marks: &mut [u8],
+) -> Result<(), usize>
     requires few { ⌜ n ≤ first ⌝ }
     requires early { ⌜ first ≤ 65 ⌝ }
     requires redeemable { ⌜ now terms .redemption ≤ 10000000 ⌝ }
@@ -91,7 +100,12 @@ pub fn work_back<L: Lattice, K: ClashRule>(lattice: &L, clash: &K, terms: &Terms
 }
 
 // The figure of node 0 of step 0.
-pub fn root_of<L: Lattice, K: ClashRule>(lattice: &L, clash: &K, terms: &Terms, spread: u32) -> u32
+pub(crate) fn root_of<L: Lattice, K: ClashRule>(
+    lattice: &L,
+    clash: &K,
+    terms: &Terms,
+    spread: u32,
+) -> u32
     requires payable { ⌜ Payable (now terms) ⌝ }
     requires priced { ⌜ Priced (now terms) ⌝ }
     ensures { λ r. ⌜ r ≡ root (L·Lattice .model (now (lattice .entry))) (K·ClashRule .settled (now (clash .entry))) (now (terms .entry)) spread ⌝ }

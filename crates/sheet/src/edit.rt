@@ -83,7 +83,7 @@ fn check_spread(spread: u32) -> Result<(), SheetFault>
 
 impl Edit {
     // Whether the edit may be made on a lattice of `last` steps.
-    pub fn check(self, last: usize, state: &State) -> Result<(), SheetFault>
+    pub(crate) fn check(self, last: usize, state: &State) -> Result<(), SheetFault>
         ensures { λ r. ⌜ r ≡ tested (edit-fault last (now (state .entry)) self) ⌝ }
     {
         match self {
@@ -108,7 +108,7 @@ fn set_right(terms: &mut Terms, kind: Kind, t: usize, right: Option<Right>)
 
 impl State {
     // Makes an edit that was checked.
-    pub fn apply(&mut self, last: usize, edit: Edit)
+    pub(crate) fn apply(&mut self, last: usize, edit: Edit)
         requires few { ⌜ last ≤ 64 ⌝ }
         requires checked { ⌜ edit-fault last (now self) edit ≡ None ⌝ }
         ensures { λ _. ⌜ now (self .exit) ≡ edited last (now (self .entry)) edit ⌝ }

@@ -1,9 +1,15 @@
 // A sheet of terms on a lattice: figures, marks, and what its calls refuse.
-pub mod fault;
 pub mod answer;
-pub mod state;
-pub mod sheet;
-mod edit;
-mod rows;
-mod step;
 mod back;
+mod edit;
+pub mod fault;
+mod rows;
+pub mod sheet;
+pub mod state;
+mod step;
+
+pub use answer::Costs;
+pub use answer::Entry;
+pub use fault::SheetFault;
+pub use sheet::Sheet;
+pub use sheet::work::all_nodes;

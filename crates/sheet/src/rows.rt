@@ -12,7 +12,7 @@ use game::terms::Terms;
 use lattice::Lattice;
 
 // Adds a coupon to each entry; an entry above 650,000,000 counts as that.
-pub fn add_coupon(row: &mut [u32], coupon: u32)
+pub(crate) fn add_coupon(row: &mut [u32], coupon: u32)
     requires { ⌜ coupon ≤ 10000000 ⌝ }
     ensures { λ _. ⌜ now (row .exit) ≡ map (λ x. capped (x + coupon)) (now (row .entry)) ⌝ }
 {
@@ -22,7 +22,13 @@ pub fn add_coupon(row: &mut [u32], coupon: u32)
 }
 
 // From the values of step `t + 1` to their rolled figures at step `t`.
-pub fn roll_back<L: Lattice>(lattice: &L, terms: &Terms, spread: u32, t: usize, row: &mut [u32; 129])
+pub(crate) fn roll_back<L: Lattice>(
+    lattice: &L,
+    terms: &Terms,
+    spread: u32,
+    t: usize,
+    row: &mut [u32; 129],
+)
     requires early { ⌜ t < 64 ⌝ }
     requires payable { ⌜ Payable (now terms) ⌝ }
     ensures { λ _. ⌜ ((j : ℕ) → j < L·Lattice .model (now (lattice .entry)) .count t → getD (now (row .exit)) j 0 ≡ rolled-on (L·Lattice .model (now (lattice .entry))) (now (terms .entry)) spread t j (λ i. getD (now (row .entry)) i 0)) ⌝ }
@@ -35,7 +41,14 @@ pub fn roll_back<L: Lattice>(lattice: &L, terms: &Terms, spread: u32, t: usize, 
 }
 
 // What a right of step `t` pays at each node of that step.
-pub fn right_amounts<L: Lattice>(lattice: &L, terms: &Terms, spread: u32, t: usize, right: Right, row: &mut [u32; 129])
+pub(crate) fn right_amounts<L: Lattice>(
+    lattice: &L,
+    terms: &Terms,
+    spread: u32,
+    t: usize,
+    right: Right,
+    row: &mut [u32; 129],
+)
     requires early { ⌜ t + right .notice ≤ 64 ⌝ }
     requires payable { ⌜ Payable (now terms) ⌝ }
     ensures { λ _. ⌜ ((j : ℕ) → j < L·Lattice .model (now (lattice .entry)) .count t → getD (now (row .exit)) j 0 ≡ stream (L·Lattice .model (now (lattice .entry))) (now (terms .entry)) spread (right .price) (right .notice) t j) ⌝ }

@@ -30,9 +30,18 @@ pub struct Sheet<L: Lattice, K: ClashRule> {
 }
 
 impl<L: Lattice, K: ClashRule> Sheet<L, K> {
-    // A redemption of 1,000,000, no coupons and no rights, a spread of 0, nothing worked.
+    // A redemption of 1,000,000, no coupons and no rights, a spread of 0, nothing worked: whatever the rows hold.
     pub fn open(lattice: L, clash: K) -> Sheet<L, K>
         ensures state { λ r. ⌜ r .state ≡ opened (L·Lattice .model lattice .steps) ⌝ }
+        ensures stands { λ r. ⌜ ((values marks : List ℕ) → Standing (L·Lattice .model lattice) (K·ClashRule .settled clash) (r .state) values marks) ⌝ }
+        ensures same { λ r. ⌜ r .lattice ≡ lattice ⌝ ∗ ⌜ r .clash ≡ clash ⌝ }
+    {
+        Sheet::fresh(lattice, clash)
+    }
+
+    fn fresh(lattice: L, clash: K) -> Sheet<L, K>
+        ensures state { λ r. ⌜ r .state ≡ opened (L·Lattice .model lattice .steps) ⌝ }
+        ensures stands { λ r. ⌜ ((values marks : List ℕ) → Standing (L·Lattice .model lattice) (K·ClashRule .settled clash) (r .state) values marks) ⌝ }
         ensures same { λ r. ⌜ r .lattice ≡ lattice ⌝ ∗ ⌜ r .clash ≡ clash ⌝ }
     {
         let terms = Terms {
@@ -67,6 +76,6 @@ impl<L: Lattice, K: ClashRule> Sheet<L, K> {
         let last = self.lattice.steps();
         edit.check(last, &self.state)?;
         self.state.apply(last, edit);
-        Ok(self.state.first)
+        Ok(self.first_worked())
     }
 }

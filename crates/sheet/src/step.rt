@@ -26,7 +26,14 @@ fn amount_at(right: Option<Right>, row: &[u32; 129], j: usize) -> Option<u32>
 }
 
 // The right of a kind at step `t`, and what it pays at each node of that step.
-fn amounts<L: Lattice>(lattice: &L, terms: &Terms, spread: u32, kind: Kind, t: usize, row: &mut [u32; 129]) -> Option<Right>
+fn amounts<L: Lattice>(
+    lattice: &L,
+    terms: &Terms,
+    spread: u32,
+    kind: Kind,
+    t: usize,
+    row: &mut [u32; 129],
+) -> Option<Right>
     requires payable { ⌜ Payable (now terms) ⌝ }
     requires priced { ⌜ Priced (now terms) ⌝ }
     ensures { λ r. ⌜ ((j : ℕ) → j < L·Lattice .model (now (lattice .entry)) .count t → paid r (now (row .exit)) j ≡ amount (L·Lattice .model (now (lattice .entry))) (now (terms .entry)) spread kind t j) ⌝ }
@@ -39,20 +46,42 @@ fn amounts<L: Lattice>(lattice: &L, terms: &Terms, spread: u32, kind: Kind, t: u
 }
 
 // Decides each of the first `n` nodes: `figures` comes with the values of going on.
-fn decide_row<K: ClashRule>(clash: &K, put: Option<Right>, lows: &[u32; 129], call: Option<Right>, highs: &[u32; 129], n: usize, figures: &mut [u32; 129], marks: &mut [u8; 129])
+fn decide_row<K: ClashRule>(
+    clash: &K,
+    put: Option<Right>,
+    lows: &[u32; 129],
+    call: Option<Right>,
+    highs: &[u32; 129],
+    n: usize,
+    figures: &mut [u32; 129],
+    marks: &mut [u8; 129],
+)
     requires { ⌜ n ≤ 129 ⌝ }
     ensures figures { λ _. ⌜ ((j : ℕ) → j < n → getD (now (figures .exit)) j 0 ≡ figure-of (K·ClashRule .settled (now (clash .entry))) (paid put (now (lows .entry)) j) (paid call (now (highs .entry)) j) (getD (now (figures .entry)) j 0)) ⌝ }
     ensures marks { λ _. ⌜ ((j : ℕ) → j < n → getD (now (marks .exit)) j 0 ≡ mark-number (mark-of (paid put (now (lows .entry)) j) (paid call (now (highs .entry)) j) (getD (now (figures .entry)) j 0))) ⌝ }
 {
     for j in 0..n {
-        let node = node::decide(clash, amount_at(put, lows, j), amount_at(call, highs, j), figures[j]);
+        let node = node::decide(
+            clash,
+            amount_at(put, lows, j),
+            amount_at(call, highs, j),
+            figures[j],
+        );
         figures[j] = node.figure;
         marks[j] = node.mark.number();
     }
 }
 
 // Works a step below the last: `figures` comes with those of the next step.
-fn work_inner<L: Lattice, K: ClashRule>(lattice: &L, clash: &K, terms: &Terms, spread: u32, t: usize, figures: &mut [u32; 129], marks: &mut [u8; 129])
+fn work_inner<L: Lattice, K: ClashRule>(
+    lattice: &L,
+    clash: &K,
+    terms: &Terms,
+    spread: u32,
+    t: usize,
+    figures: &mut [u32; 129],
+    marks: &mut [u8; 129],
+)
     requires early { ⌜ t < L·Lattice .model (now lattice) .steps ⌝ }
     requires payable { ⌜ Payable (now terms) ⌝ }
     requires priced { ⌜ Priced (now terms) ⌝ }
@@ -68,8 +97,31 @@ fn work_inner<L: Lattice, K: ClashRule>(lattice: &L, clash: &K, terms: &Terms, s
     decide_row(clash, put, &lows, call, &highs, n, figures, marks);
 }
 
+// Works the last step: the redemption at each node, and nobody exercises.
+fn work_last<L: Lattice>(
+    lattice: &L,
+    terms: &Terms,
+    t: usize,
+    figures: &mut [u32; 129],
+    marks: &mut [u8; 129],
+)
+    ensures figures { λ _. ⌜ ((j : ℕ) → j < L·Lattice .model (now (lattice .entry)) .count t → getD (now (figures .exit)) j 0 ≡ now (terms .entry) .redemption) ⌝ }
+    ensures marks { λ _. ⌜ ((j : ℕ) → j < L·Lattice .model (now (lattice .entry)) .count t → getD (now (marks .exit)) j 0 ≡ 0) ⌝ }
+{
+    *figures = [terms.redemption; 129];
+    *marks = [0; 129];
+}
+
 // Works step `t`: `figures` comes with those of the next step, if there is one.
-pub fn work_step<L: Lattice, K: ClashRule>(lattice: &L, clash: &K, terms: &Terms, spread: u32, t: usize, figures: &mut [u32; 129], marks: &mut [u8; 129])
+pub(crate) fn work_step<L: Lattice, K: ClashRule>(
+    lattice: &L,
+    clash: &K,
+    terms: &Terms,
+    spread: u32,
+    t: usize,
+    figures: &mut [u32; 129],
+    marks: &mut [u8; 129],
+)
     requires payable { ⌜ Payable (now terms) ⌝ }
     requires priced { ⌜ Priced (now terms) ⌝ }
     ensures figures { λ _. ⌜ ((j : ℕ) → j < L·Lattice .model (now (lattice .entry)) .count t → getD (now (figures .exit)) j 0 ≡ stepped-figure (L·Lattice .model (now (lattice .entry))) (K·ClashRule .settled (now (clash .entry))) (now (terms .entry)) spread t (λ i. getD (now (figures .entry)) i 0) j) ⌝ }
@@ -78,7 +130,6 @@ pub fn work_step<L: Lattice, K: ClashRule>(lattice: &L, clash: &K, terms: &Terms
     if t < lattice.steps() {
         work_inner(lattice, clash, terms, spread, t, figures, marks);
     } else {
-        *figures = [terms.redemption; 129];
-        *marks = [0; 129];
+        work_last(lattice, terms, t, figures, marks);
     }
 }

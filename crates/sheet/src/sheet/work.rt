@@ -54,7 +54,16 @@ impl<L: Lattice, K: ClashRule> Sheet<L, K> {
     {
         check_rows(&self.lattice, values, marks)?;
         let n = n.min(self.state.first);
-        if let Err(t) = back::work_back(&self.lattice, &self.clash, &self.state.terms, self.state.spread, self.state.first, n, values, marks) {
+        if let Err(t) = back::work_back(
+            &self.lattice,
+            &self.clash,
+            &self.state.terms,
+            self.state.spread,
+            self.state.first,
+            n,
+            values,
+            marks,
+        ) {
             return Err(SheetFault::TooLarge(t));
         }
         self.state.first -= n;
@@ -62,7 +71,12 @@ impl<L: Lattice, K: ClashRule> Sheet<L, K> {
     }
 
     // Works the next `n` steps below the first worked one, or all that are left.
-    pub fn back(&mut self, n: usize, values: &mut [u32], marks: &mut [u8]) -> Result<usize, SheetFault>
+    pub fn back(
+        &mut self,
+        n: usize,
+        values: &mut [u32],
+        marks: &mut [u8],
+    ) -> Result<usize, SheetFault>
         ensures worked { λ r. ⌜ Worked-back (L·Lattice .model (now (self .entry) .lattice)) (K·ClashRule .settled (now (self .entry) .clash)) n (now (self .entry) .state) (now (values .entry)) (now (marks .entry)) r (now (self .exit) .state) (now (values .exit)) (now (marks .exit)) ⌝ }
         ensures same { λ _. ⌜ now (self .exit) .lattice ≡ now (self .entry) .lattice ⌝ ∗ ⌜ now (self .exit) .clash ≡ now (self .entry) .clash ⌝ }
     {
@@ -70,7 +84,13 @@ impl<L: Lattice, K: ClashRule> Sheet<L, K> {
     }
 
     // The stored figure and mark of a node. With the rows handed on, they are best play there.
-    pub fn read(&self, t: usize, j: usize, values: &[u32], marks: &[u8]) -> Result<Entry, SheetFault>
+    pub fn read(
+        &self,
+        t: usize,
+        j: usize,
+        values: &[u32],
+        marks: &[u8],
+    ) -> Result<Entry, SheetFault>
         ensures answers { λ r. ⌜ told sheet-refusal r ≡ answer (read-fault (L·Lattice .model (now (self .entry) .lattice)) (now (self .entry) .state) (now (values .entry)) (now (marks .entry)) t j) (entry (L·Lattice .model (now (self .entry) .lattice)) (now (values .entry)) (now (marks .entry)) t j) ⌝ }
         ensures best { λ _. ⌜ (Standing (L·Lattice .model (now (self .entry) .lattice)) (K·ClashRule .settled (now (self .entry) .clash)) (now (self .entry) .state) (now (values .entry)) (now (marks .entry)) → Best-stored (L·Lattice .model (now (self .entry) .lattice)) (K·ClashRule .settled (now (self .entry) .clash)) (now (self .entry) .state) (now (values .entry)) (now (marks .entry))) ⌝ }
     {

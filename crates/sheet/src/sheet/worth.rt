@@ -21,7 +21,12 @@ impl<L: Lattice, K: ClashRule> Sheet<L, K> {
     fn root(&self) -> u32
         ensures { λ r. ⌜ Root-figure (L·Lattice .model (now (self .entry) .lattice)) (K·ClashRule .settled (now (self .entry) .clash)) (now (self .entry) .state) r ⌝ }
     {
-        back::root_of(&self.lattice, &self.clash, &self.state.terms, self.state.spread)
+        back::root_of(
+            &self.lattice,
+            &self.clash,
+            &self.state.terms,
+            self.state.spread,
+        )
     }
 
     // What the calls cost the holder and what the puts are worth to him.

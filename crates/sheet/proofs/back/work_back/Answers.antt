@@ -22,10 +22,15 @@ loop-t-holds g c =
     let w = c .args .first in
     let v = c .args .values .now in
     let k = c .args .marks .now in
-    let z : 0 ≡ w - w = omega arith in
-    (omega arith, c .offset-to .ensures, search needs, refl, found-holds m σ b s w v (g .L·Lattice .lawful (c .args .lattice .now)) (c .load-figures .result) (c .load-figures .ensures),
-     rewritten-none m (back-figure m σ b s w v) v w ∙ ap (λ n. rewritten m v (back-figure m σ b s w v) w n) z,
-     rewritten-none m (back-mark m σ b s w v) k w ∙ ap (λ n. rewritten m k (back-mark m σ b s w v) w n) z)
+    let z : 0 ≡ w - w = omega arith in (
+      omega arith,
+      c .offset-to .ensures,
+      search needs,
+      refl,
+      found-holds m σ b s w v (g .L·Lattice .lawful (c .args .lattice .now)) (c .load-figures .result) (c .load-figures .ensures),
+      rewritten-none m (back-figure m σ b s w v) v w ∙ ap (λ n. rewritten m v (back-figure m σ b s w v) w n) z,
+      rewritten-none m (back-mark m σ b s w v) k w ∙ ap (λ n. rewritten m k (back-mark m σ b s w v) w n) z,
+    )
 
 -- no figure is above the limit
 pub returns-then-over-limit : need.returns-then-over-limit
@@ -93,14 +98,19 @@ loop-t-again g c =
     let F = back-figure m σ b s w v in
     let G = back-mark m σ b s w v in
     let figures : Holds m σ b s w v (u - 1) (c .work-step .last .figures) = λ j h. c .work-step .ensures .figures j h ∙ stepped-figure-is m σ b s w v (u - 1) u (c .loop-t .figures) low up (inv .4) j in
-    let marks : (j : ℕ) → j < m .count (u - 1) → getD (c .work-step .last .marks) j 0 ≡ G (u - 1) j = λ j h. c .work-step .ensures .marks j h ∙ stepped-mark-is m σ b s w v (u - 1) u (c .loop-t .figures) low up (inv .4) j in
-    (omega arith, from, search needs, search needs, figures,
-     c .store .ensures
-     ∙ rewritten-more m F v (c .loop-t .values) (take n (c .work-step .last .figures)) (u - 1) (w - u) (c .loop-t .to - c .nodes-count .result) long from (inv .5 ∙ ap (λ t. rewritten m v F t (w - u)) up) (front-is m F (u - 1) n (c .work-step .last .figures) (omega arith) (omega (arith, count-few laws (u - 1))) figures)
-     ∙ ap (rewritten m v F (u - 1)) more,
-     c .store-in-loop-t .ensures
-     ∙ rewritten-more m G k (c .loop-t .marks) (take n (c .work-step .last .marks)) (u - 1) (w - u) (c .loop-t .to - c .nodes-count .result) wide from (inv .6 ∙ ap (λ t. rewritten m k G t (w - u)) up) (front-is m G (u - 1) n (c .work-step .last .marks) (omega arith) (omega (arith, count-few laws (u - 1))) marks)
-     ∙ ap (rewritten m k G (u - 1)) more)
+    let marks : (j : ℕ) → j < m .count (u - 1) → getD (c .work-step .last .marks) j 0 ≡ G (u - 1) j = λ j h. c .work-step .ensures .marks j h ∙ stepped-mark-is m σ b s w v (u - 1) u (c .loop-t .figures) low up (inv .4) j in (
+      omega arith,
+      from,
+      search needs,
+      search needs,
+      figures,
+      c .store .ensures
+          ∙ rewritten-more m F v (c .loop-t .values) (take n (c .work-step .last .figures)) (u - 1) (w - u) (c .loop-t .to - c .nodes-count .result) long from (inv .5 ∙ ap (λ t. rewritten m v F t (w - u)) up) (front-is m F (u - 1) n (c .work-step .last .figures) (omega arith) (omega (arith, count-few laws (u - 1))) figures)
+          ∙ ap (rewritten m v F (u - 1)) more,
+      c .store-in-loop-t .ensures
+          ∙ rewritten-more m G k (c .loop-t .marks) (take n (c .work-step .last .marks)) (u - 1) (w - u) (c .loop-t .to - c .nodes-count .result) wide from (inv .6 ∙ ap (λ t. rewritten m k G t (w - u)) up) (front-is m G (u - 1) n (c .work-step .last .marks) (omega arith) (omega (arith, count-few laws (u - 1))) marks)
+          ∙ ap (rewritten m k G (u - 1)) more,
+    )
 
 pub returns : need.returns
 returns g c =

@@ -19,4 +19,4 @@ returns g c =
     let m = g .L·Lattice .model (s .lattice) in
     let σ = g .K·ClashRule .settled (s .clash) in
     let none = tested-none _ (sym (c .check .ensures) ∙ c .in-Continue-check .was tt) in
-    record { edited = edit-made m σ (c .args .edit) (s .state) (c .apply .last .self) (c .steps-last .result) (c .steps-last .ensures) none (c .apply .ensures); same = (refl, refl) }
+    record { edited = edit-made m σ (c .args .edit) (s .state) (c .apply .last .self) (c .steps-last .result) (c .first-worked .result) (c .steps-last .ensures) none (c .apply .ensures) (c .first-worked .ensures); same = (refl, refl) }
