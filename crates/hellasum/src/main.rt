@@ -5,7 +5,7 @@ mod table;
 
 use perform::run;
 use script::ReadError;
-use script::messages::ScriptFaultDisplay;
+use script::ScriptFaultDisplay;
 use script::read_script;
 use std::alloc::Global;
 use std::env;

@@ -8,14 +8,14 @@ use lattice::tree::Tree;
 use lattice::tree::TreeLattice;
 use rates::kind::Kind;
 use rates::weights::Triple;
-use script::command::ClashRule;
+use script::ClashRule;
 use script::Command;
-use script::command::Right;
-use script::command::Shape;
-use script::command::SheetCall;
-use script::command::Weights;
-use sheet::sheet::Sheet;
-use sheet::sheet::work::all_nodes;
+use script::Right;
+use script::Shape;
+use script::SheetCall;
+use script::Weights;
+use sheet::Sheet;
+use sheet::all_nodes;
 use std::alloc::AllocError;
 use std::alloc::Global;
 use std::io;
@@ -74,16 +74,51 @@ fn side(right: Right) -> Side {
 fn call(rt: &LibcRuntime, lattice: &Tree, desk: &mut Desk, call: SheetCall) -> io::Result<()> {
     let sheet = &mut desk.sheet;
     match call {
-        SheetCall::Coupon { step, amount } => say::first_worked(rt, sheet.coupon(step as usize, amount)),
-        SheetCall::Call { step, price, notice } => say::first_worked(rt, sheet.call(step as usize, price, notice as usize)),
-        SheetCall::Put { step, price, notice } => say::first_worked(rt, sheet.put(step as usize, price, notice as usize)),
-        SheetCall::Cancel { right, step } => say::first_worked(rt, sheet.cancel(side(right), step as usize)),
+        SheetCall::Coupon { step, amount } => say::first_worked(
+            rt,
+            sheet.coupon(step as usize, amount),
+        ),
+        SheetCall::Call {
+            step,
+            price,
+            notice,
+        } => say::first_worked(rt, sheet.call(step as usize, price, notice as usize)),
+        SheetCall::Put {
+            step,
+            price,
+            notice,
+        } => say::first_worked(rt, sheet.put(step as usize, price, notice as usize)),
+        SheetCall::Cancel { right, step } => say::first_worked(
+            rt,
+            sheet.cancel(side(right), step as usize),
+        ),
         SheetCall::Redeem { amount } => say::first_worked(rt, sheet.redeem(amount)),
         SheetCall::Spread { spread } => say::first_worked(rt, sheet.spread(spread)),
-        SheetCall::Back { steps } => say::first_worked(rt, sheet.back(steps as usize, desk.values.as_mut_slice(), desk.marks.as_mut_slice())),
-        SheetCall::Read { step, node } => say::entry(rt, sheet.read(step as usize, node as usize, desk.values.as_slice(), desk.marks.as_slice())),
+        SheetCall::Back { steps } => say::first_worked(
+            rt,
+            sheet.back(
+                steps as usize,
+                desk.values.as_mut_slice(),
+                desk.marks.as_mut_slice(),
+            ),
+        ),
+        SheetCall::Read { step, node } => say::entry(
+            rt,
+            sheet.read(
+                step as usize,
+                node as usize,
+                desk.values.as_slice(),
+                desk.marks.as_slice(),
+            ),
+        ),
         SheetCall::Cost => say::costs(rt, sheet.cost()),
-        SheetCall::Table => table::print(rt, lattice, sheet, desk.values.as_slice(), desk.marks.as_slice()),
+        SheetCall::Table => table::print(
+            rt,
+            lattice,
+            sheet,
+            desk.values.as_slice(),
+            desk.marks.as_slice(),
+        ),
     }
 }
 
@@ -97,7 +132,11 @@ pub fn run(rt: &LibcRuntime, commands: &[Command]) -> io::Result<()> {
     let mut desk = open(heap, lattice, clash)?;
     for command in commands {
         match command {
-            Command::Lattice { shape, steps, rates } => {
+            Command::Lattice {
+                shape,
+                steps,
+                rates,
+            } => {
                 let steps = *steps as usize;
                 let rates = rates.as_slice();
                 match Tree::check(kind(*shape), steps, rates) {

@@ -3,9 +3,9 @@ use game::clash::AnyClash;
 use rates::fault::LatticeFault;
 use rates::fault::Layer;
 use rates::fault::Place;
-use sheet::answer::Costs;
-use sheet::answer::Entry;
-use sheet::fault::SheetFault;
+use sheet::Costs;
+use sheet::Entry;
+use sheet::SheetFault;
 use std::io;
 
 fn layer_name(layer: Layer) -> &'static str {
@@ -53,9 +53,11 @@ pub fn costs(rt: &LibcRuntime, costs: Costs) -> io::Result<()> {
 }
 
 pub fn clash(rt: &LibcRuntime, rule: AnyClash) -> io::Result<()> {
-    rt.println(match rule {
-        AnyClash::PutPrevails => "clash put",
-        AnyClash::CallPrevails => "clash call",
-        AnyClash::Halfway => "clash halfway",
-    })
+    rt.println(
+        match rule {
+            AnyClash::PutPrevails => "clash put",
+            AnyClash::CallPrevails => "clash call",
+            AnyClash::Halfway => "clash halfway",
+        },
+    )
 }

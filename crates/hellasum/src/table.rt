@@ -1,11 +1,11 @@
 // The worked nodes of a sheet as a table for people.
 use game::clash::AnyClash;
+use game::clash::AnyClashRule;
 use lattice::Lattice;
 use lattice::tree::Tree;
 use lattice::tree::TreeLattice;
-use game::clash::AnyClashRule;
-use sheet::answer::Entry;
-use sheet::sheet::Sheet;
+use sheet::Entry;
+use sheet::Sheet;
 use std::io;
 
 fn mark_name(mark: u8) -> &'static str {
@@ -25,7 +25,13 @@ fn line(rt: &LibcRuntime, t: usize, j: usize, entry: Entry) -> io::Result<()> {
     println!(rt, "{t:>4} {j:>5} {whole:>8}.{rest:04}  {mark}")
 }
 
-pub fn print(rt: &LibcRuntime, lattice: &Tree, sheet: &Sheet<Tree, AnyClash>, values: &[u32], marks: &[u8]) -> io::Result<()> {
+pub fn print(
+    rt: &LibcRuntime,
+    lattice: &Tree,
+    sheet: &Sheet<Tree, AnyClash>,
+    values: &[u32],
+    marks: &[u8],
+) -> io::Result<()> {
     let w = sheet.first_worked();
     if w > lattice.steps() {
         return rt.println("no step is worked");

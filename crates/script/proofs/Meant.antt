@@ -1,11 +1,10 @@
 -- From a form and its words to the call. Assumes nothing.
 use mathlib.Core.Path.{_≡_, refl, sym, ap, _∙_}
-use mathlib.Core.Bool.{Bool, true, false}
+use mathlib.Core.Bool.{true, false}
 use mathlib.Core.List.{List, [], _∷_}
 use Prim.Native.Nat.{ℕ, suc, _≤_}
 use native.Mathlib.Omega.{arith}
 use denote.Ref.{RefT, now}
-use lib.Dec.{eqb, leb}
 use lib.ListN.{length, drop}
 use Rattle.std.specs.Options.{Cases, okOr}
 use Rattle.std.specs.declared.option.Option.{Option}

@@ -1,7 +1,7 @@
 -- A script read line by line. Assumes nothing.
 use mathlib.Core.Path.{_≡_, refl, sym, ap, _∙_}
-use mathlib.Core.Bool.{Bool, true, false, _||_}
-use mathlib.Core.List.{List, [], _∷_, _++_, map, append-assoc, append-nil}
+use mathlib.Core.Bool.{Bool, true, _||_}
+use mathlib.Core.List.{List, [], _∷_, _++_, append-assoc, append-nil}
 use Prim.Native.Nat.{ℕ, _+_}
 use native.Mathlib.Omega.{arith}
 use lib.Dec.{eqb}
@@ -12,13 +12,15 @@ use Rattle.std.specs.declared.option.Option.{Option}
 use Rattle.std.specs.declared.option.Option.the-variants.{Some, None}
 use Rattle.std.specs.declared.result.Result.{Result}
 use Rattle.std.specs.declared.result.Result.the-variants.{Ok, Err}
+use Rattle.std.specs.Options.{mapped}
+use Rattle.script.specs.declared.command.Command.{Command}
 use Rattle.script.specs.declared.cuts.Mark.the-variants.{LineEnd}
 use Rattle.script.specs.declared.fault.Expected.{Expected}
 use Rattle.script.specs.declared.fault.LineError.{LineError}
 use Rattle.script.specs.declared.fault.LineError.the-variants.{Fault, Memory}
 use Rattle.script.specs.Calls.{callOf}
-use Rattle.script.specs.Commands.{Meaning, opensSheet}
-use Rattle.script.specs.Cuts.{cuts, linesOf, wordsOf}
+use Rattle.script.specs.Commands.{Meaning, meant, opensSheet}
+use Rattle.script.specs.Cuts.{cuts, linesOf}
 use Rattle.script.specs.Faults.{Gives, atLine}
 use Rattle.script.specs.Script.{Script, permitted, lineFrom, lineOf, first, onward, scriptFrom, Reads}
 use Rattle.script.proofs.Pieces.{Cut, first-piece}
@@ -41,20 +43,13 @@ abbrev pub prefixed : List Meaning → Script → Script
 prefixed ms (Err f) = Err f
 prefixed ms (Ok ns) = Ok (ms ++ ns)
 
-prefixed-none : (s : Script) → prefixed [] s ≡ s
-prefixed-none (Err f) = refl
-prefixed-none (Ok ns) = refl
-
 prefixed-push : (ms : List Meaning) (m : Meaning) (s : Script) → prefixed ms (first m s) ≡ prefixed (ms ++ m ∷ []) s
 prefixed-push ms m (Err f) = refl
 prefixed-push ms m (Ok ns) = ap Ok (sym (append-assoc ms (m ∷ []) ns))
 
--- ms are the calls of the lines above, n of them, and rest is still to be read; b tells whether a sheet is open there
+-- ms are the calls of the n lines above, rest is still to be read, b tells whether a sheet is open there, and all is the whole script
 pub record Sofar (b : Bool) (n : ℕ) (ms : List Meaning) (rest : List ℕ) (all : Script) : Type 0 where
   pub split : prefixed ms (scriptFrom b (n + 1) (linesOf rest)) ≡ all
-
-pub lines-none : (b : Bool) (text : List ℕ) {ms : List Meaning} → ms ≡ [] → Sofar b 0 ms text (scriptFrom b 1 (linesOf text))
-lines-none b text e = record { split = ap (λ (l : List Meaning). prefixed l (scriptFrom b 1 (linesOf text))) e ∙ prefixed-none _ }
 
 pub lines-all : {b : Bool} {n : ℕ} {ms : List Meaning} {rest : List ℕ} {all : Script} → Sofar b n ms rest all → true ≡ eqb (length rest) 0 → all ≡ Ok ms
 lines-all {b} {n} {ms} {rest} h e =
@@ -72,9 +67,15 @@ module _ {b : Bool} {n : ℕ} {ms : List Meaning} {rest line more : List ℕ} {a
   line-fault f (Fault x) e = sym (at-line e)
   line-fault f Memory e = tt
 
-  pub line-none : lineOf b line ≡ Ok None → Sofar b (n + 1) ms more all
-  line-none e = record { split = at-line e }
+  -- o is the line's command
+  module _ {o : Option Command} (e : lineOf b line ≡ Ok (mapped meant o)) where
+    pub line-none : o ≡ None → Sofar b (n + 1) ms more all
+    line-none is = record { split = at-line (e ∙ ap (λ (p : Option Command). Ok (mapped meant p)) is) }
 
-  pub line-call : (m : Meaning) → lineOf b line ≡ Ok (Some m) → {c : Bool} → c ≡ (b || opensSheet m) → {ns : List Meaning} → ns ≡ ms ++ m ∷ [] → Sofar c (n + 1) ns more all
-  line-call m e is put =
-      record { split = (λ i. prefixed (put i) (scriptFrom (is i) (n + 1 + 1) (linesOf more))) ∙ sym (prefixed-push ms m _) ∙ at-line e }
+    pub line-call : {m : Command} → o ≡ Some m → {c : Bool} → c ≡ opensSheet (meant m) → {ns : List Meaning} → ns ≡ ms ++ meant m ∷ [] → Sofar (b || c) (n + 1) ns more all
+    line-call {m} is opens put =
+        record {
+          split = (λ i. prefixed (put i) (scriptFrom (b || opens i) (n + 1 + 1) (linesOf more)))
+              ∙ sym (prefixed-push ms (meant m) _)
+              ∙ at-line (e ∙ ap (λ (p : Option Command). Ok (mapped meant p)) is);
+        }

@@ -1,7 +1,8 @@
 -- The call that the words of a line are.
---   formOf ws       the form that the words' first or first two name, or what was expected in their place
---   callOf ws       the call that the words are, or what was expected: it is settled in this order by the first word, the
---                   second where the name has two, the number of words, and the numbers
+--   formOf ws       the form that the first word names, or the first two, or what was expected in their place
+--   meaning f ns    what a call of the form f says with the numbers ns
+--   callOf ws       the call that the words are, or what was expected: asked in this order are the first word, the second
+--                   where the name has two, the number of words, and whether all others are numbers
 -- Assumes nothing.
 use mathlib.Core.Bool.{cond}
 use mathlib.Core.List.{List, []}

@@ -1,11 +1,13 @@
--- Pieces of a text.
---   cuts m b        whether the byte b is what m names
+-- Lines and words, as what stands between the bytes that a text is cut at.
+--   cuts m b        whether the byte b is the mark m: a line end (10), a comment's beginning (35), or what separates words, a
+--                   blank (32), a tab (9) or a carriage return (13)
 --   before f bs     the bytes in front of the first that f holds of; all where there is none
 --   after f bs      the bytes behind it; none where there is none
---   pieces f bs     what stands between the bytes that f holds of, in order; the last may lack such a byte
---   linesOf text    its lines: pieces between line ends
+--   pieces f bs     what stands between the bytes that f holds of, in order; the last piece may lack such a byte behind it
+--   filled ps       those of the pieces that are not empty
+--   linesOf text    its lines
+--   wordsOf line    its words, up to the comment
 --   texts ws        what the references ws point to
---   wordsOf line    its words: the pieces between blanks, tabs and carriage returns that are not empty, up to the comment
 -- Assumes nothing.
 use mathlib.Core.Bool.{Bool, cond, _||_}
 use mathlib.Core.List.{List, [], _∷_, map}
@@ -14,9 +16,6 @@ use denote.Ref.{RefT, now}
 use lib.Dec.{eqb}
 use Rattle.script.specs.declared.cuts.Mark.{Mark}
 use Rattle.script.specs.declared.cuts.Mark.the-variants.{LineEnd, Comment, Blank}
-
-abbrev pub texts : List (RefT (List ℕ)) → List (List ℕ)
-texts ws = map (λ w. now w) ws
 
 abbrev pub cuts : Mark → ℕ → Bool
 cuts LineEnd b = eqb b 10
@@ -50,3 +49,6 @@ linesOf text = pieces (cuts LineEnd) text
 
 abbrev pub wordsOf : List ℕ → List (List ℕ)
 wordsOf line = filled (pieces (cuts Blank) (before (cuts Comment) line))
+
+abbrev pub texts : List (RefT (List ℕ)) → List (List ℕ)
+texts ws = map (λ w. now w) ws

@@ -1,7 +1,11 @@
--- The names of calls.
---   named names w   what the word w names, in a list of names; none where it is not among them
+-- The names of calls, word by word.
+--   Names X         words, each with the X that it names
+--   named names w   what the word w names; none where it is not among the names
+--   spelled es      the names that the code's list es has
+--   openingNames    the first words of calls: a whole name, or the beginning of one that has two words
+--   latticeNames, clashNames, rightNames    the second words behind `lattice`, `clash` and `cancel`
 -- Assumes nothing.
-use mathlib.Core.Bool.{Bool, cond}
+use mathlib.Core.Bool.{cond}
 use mathlib.Core.List.{List, [], _∷_}
 use Prim.Native.Nat.{ℕ}
 use denote.Ref.{RefT, now}

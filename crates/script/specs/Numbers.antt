@@ -1,5 +1,6 @@
 -- The numbers that words are.
---   numberOf w      the number that the word w is: one decimal digit or more and nothing else, below 2 ^ 32; none where it is no such number
+--   numberOf w      the number that the word w is: one decimal digit or more and nothing else, and below 2 ^ 32; none where
+--                   it is no such number
 --   numbersOf ws    the numbers that the words ws are; none where one of them is no number
 -- Assumes nothing.
 use mathlib.Core.Bool.{Bool, cond, _&&_}
@@ -25,7 +26,7 @@ abbrev pub numberOf : List ℕ → Option ℕ
 numberOf [] = None
 numberOf (b ∷ bs) = limited (valueFrom 0 (b ∷ bs))
 
--- x in front of the numbers, where both are there
+-- a number in front of others, where all are there
 abbrev pub also : Option ℕ → Option (List ℕ) → Option (List ℕ)
 also None o = None
 also (Some n) None = None

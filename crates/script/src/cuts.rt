@@ -1,6 +1,5 @@
 // Cutting a text at the bytes that end a line, begin a comment or separate words.
 ghost use mathlib.Core.Path.{_≡_};
-ghost use lib.ListN.{length};
 ghost use Rattle.script.specs.Cuts.{cuts, before, after};
 
 // What a text is cut at.

@@ -1,4 +1,5 @@
 // The forms that a line may have: which call it is, and how many words that takes.
+// A further call is a case here and of what it says in `command`, a name in `names`, and an arm in `calls` and `messages`.
 ghost use mathlib.Core.Path.{_≡_};
 ghost use Rattle.script.specs.Forms.{nameLength, sheetCount, countOf, takes};
 use crate::command::ClashRule;
@@ -15,6 +16,7 @@ pub enum LatticeKind {
     Worst,
 }
 
+// A call of the open sheet.
 #[derive(Clone, Copy, Debug, PartialEq)]
 pub enum SheetForm {
     Coupon,

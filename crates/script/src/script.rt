@@ -1,5 +1,4 @@
 // A script read line by line.
-ghost use mathlib.Core.Path.{_≡_};
 ghost use Rattle.std.specs.Options.{mapped};
 ghost use Rattle.script.specs.Commands.{meant};
 ghost use Rattle.script.specs.Cuts.{linesOf};
@@ -32,7 +31,7 @@ fn read_line(heap: Global, line: &[u8], open: bool) -> Result<Option<Command>, L
     Ok(Some(command))
 }
 
-// The commands of a text that follows what opened a sheet or did not.
+// The commands of a text, before whose first line a sheet is open or not.
 fn read_lines(heap: Global, text: &[u8], mut open: bool) -> Result<Vec<Command>, ReadError>
     ensures { λ r. ⌜ Reads (scriptFrom «open» 1 (linesOf (now (text .entry)))) r ⌝ }
 {

@@ -1,7 +1,6 @@
 use mathlib.Core.Path.{sym, ap, _∙_}
 use native.Mathlib.Omega.{arith}
 use denote.Ref.{now}
-use lib.ListN.{length}
 use Rattle.std.proofs.shelf.Lists.{drop-map, drop-all, take-rest, length-map}
 use Rattle.script.specs.Cuts.{texts}
 use Rattle.script.proofs.calls.words_from.Needs as need

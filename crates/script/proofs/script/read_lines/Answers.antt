@@ -1,15 +1,12 @@
-use mathlib.Core.Path.{_≡_, refl, sym, ap, subst, _∙_}
-use mathlib.Core.Bool.{Bool, _||_}
-use mathlib.Core.List.{List, [], _∷_, map}
+use mathlib.Core.Path.{refl, sym, ap, subst, _∙_}
+use mathlib.Core.List.{[], _∷_, map}
 use native.Mathlib.Omega.{arith}
 use Rattle.std.proofs.shelf.Lists.{map-push}
 use Rattle.std.proofs.shelf.Parts.{pushed}
 use Rattle.std.specs.Options.{mapped}
-use Rattle.std.specs.declared.option.Option.{Option}
-use Rattle.std.specs.declared.result.Result.the-variants.{Ok, Err}
+use Rattle.std.specs.declared.result.Result.the-variants.{Err}
 use Rattle.script.specs.declared.cuts.Mark.the-variants.{LineEnd}
 use Rattle.script.specs.declared.fault.ReadError.{ReadError}
-use Rattle.script.specs.declared.command.Command.{Command}
 use Rattle.script.specs.Commands.{meant}
 use Rattle.script.specs.Cuts.{cuts, linesOf}
 use Rattle.script.specs.Script.{Reads, scriptFrom}
@@ -35,16 +32,13 @@ loop-rest-less-in-Continue-push c = shorter (cut-off (need.at·loop-rest-less-in
 pub loop-rest-again : need.loop-rest-again
 loop-rest-again c =
     let cut = cut-off (need.at·loop-rest-again c .After-cut) in
-    let said = ap (λ (o : Option Command). Ok (mapped meant o)) (c .in-rest .is) in
-    (line-none (c .loop-rest .inv .0) cut (c .in-Ok .ensures tt ∙ said), omega (arith, shorter cut))
+    (line-none (c .loop-rest .inv .0) cut (c .in-Ok .ensures tt) (c .in-rest .is), omega (arith, shorter cut))
 
 pub loop-rest-again-in-Continue-push : need.loop-rest-again-in-Continue-push
 loop-rest-again-in-Continue-push c =
     let cut = cut-off (need.at·loop-rest-again-in-Continue-push c .After-cut) in
-    let said = ap (λ (o : Option Command). Ok (mapped meant o)) (c .in-Some .is) in
-    let opens = ap (λ (t : Bool). c .loop-rest .«open» || t) (c .opens-sheet-open .ensures) in
     let put = pushed (c .in-Some .command ∷ []) refl (c .in-Continue-push .was tt) (c .push .ensures .items) in
-    (line-call (c .loop-rest .inv .0) cut _ (c .in-Ok .ensures tt ∙ said) opens (ap (map meant) put ∙ map-push meant _ _), omega (arith, shorter cut))
+    (line-call (c .loop-rest .inv .0) cut (c .in-Ok .ensures tt) (c .in-Some .is) (c .opens-sheet-open .ensures) (ap (map meant) put ∙ map-push meant _ _), omega (arith, shorter cut))
 
 pub returns : need.returns
 returns c = lines-all (c .loop-rest .inv .0) (c .loop-rest-test .ensures tt)
