@@ -12,6 +12,7 @@
 --   going-on       the value of going on at the root
 --   call-amount    what the call pays at the root
 --   both-costs     what the call of h-both costs, and what its put is worth
+--   fit            the spread that a wanted price is fitted to
 --   worked-once    the value row once h-both is worked back to the root; marked-once the mark row
 --   worked-again   the value row once h-reopened is worked one step more
 --   low-first      weights of 200, 500 and 300; high-first of 500, 200 and 300
@@ -22,7 +23,7 @@ use mathlib.Core.Path.{_≡_}
 use mathlib.Core.List.{List, [], _∷_}
 use Prim.Native.Nat.{ℕ}
 use Rattle.std.specs.declared.option.Option.{Option}
-use Rattle.std.specs.declared.option.Option.the-variants.{Some}
+use Rattle.std.specs.declared.option.Option.the-variants.{Some, None}
 use Rattle.rates.specs.Model.{Model}
 use Rattle.rates.specs.Formulas.{binomial, trinomial, worst-case}
 use Rattle.rates.specs.declared.weights.Triple.{Triple}
@@ -31,9 +32,11 @@ use Rattle.game.specs.Game.{figure, mark, amount, root, rolled-on}
 use Rattle.game.specs.declared.terms.Kind.the-variants.{Call, Put}
 use Rattle.sheet.specs.Calls.{costs, worked-back, values-after, marks-after}
 use Rattle.sheet.specs.Edits.{opened, edited}
+use Rattle.sheet.specs.Fits.{greatest, fit-fault}
 use Rattle.sheet.specs.declared.answer.Costs.{Costs}
 use Rattle.sheet.specs.declared.answer.Entry.{Entry}
 use Rattle.sheet.specs.declared.edit.Edit.{Edit}
+use Rattle.sheet.specs.declared.fault.SheetFault.the-variants.{Wanted}
 use Rattle.sheet.specs.declared.edit.Edit.the-variants.{Coupon, Enter}
 use Rattle.sheet.specs.declared.state.State.{State}
 
@@ -86,6 +89,9 @@ call-amount m s = amount m (s .terms) (s .spread) Call 0 0
 abbrev pub both-costs : Costs
 both-costs = record { call = 4578; put = 2112 }
 
+abbrev pub fit : ℕ → ℕ
+fit want = greatest H put-prevails (h-both .terms) want 200000
+
 abbrev pub worked-once : List ℕ → List ℕ
 worked-once row = values-after H put-prevails h-both 3 row
 
@@ -115,6 +121,10 @@ pub record Worked-bonds : Type 0 where
   pub h-called-root : root-of H put-prevails h-called ≡ 995507
   pub h-both-root : root-of H put-prevails h-both ≡ 997619
   pub h-both-costs : costs H put-prevails h-both ≡ both-costs
+  -- the same bond fitted to a price
+  pub h-fitted : (fit 997619 ≡ 0) × (fit 997618 ≡ 1) × (fit 0 ≡ 200000)
+  pub h-fit-taken : (fit-fault H put-prevails h-both 997619 ≡ None) × (fit-fault H put-prevails h-both 997618 ≡ None) × (fit-fault H put-prevails h-both 0 ≡ None)
+  pub h-fit-refused : fit-fault H put-prevails h-both 997620 ≡ Some Wanted
   -- worked to step 0, a coupon at step 1 leaves step 1 the first worked step, and one step back renews the root alone
   pub h-reopened-first : h-reopened .first ≡ 1
   pub h-worked-once : (a b c d e f : ℕ) → worked-once (a ∷ b ∷ c ∷ d ∷ e ∷ f ∷ []) ≡ 997619 ∷ 1000000 ∷ 995000 ∷ 1000000 ∷ 1000000 ∷ 1000000 ∷ []

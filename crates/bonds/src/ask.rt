@@ -17,6 +17,9 @@ pub enum Ask {
     Read(usize, usize),
     Root,
     Cost,
+    // a wanted price
+    Fit(u32),
+    Strike,
 }
 
 pub impl fmt::Display for Ask as AskDisplay {
@@ -33,6 +36,8 @@ pub impl fmt::Display for Ask as AskDisplay {
             Ask::Read(t, j) => write!(f, "read {t} {j}"),
             Ask::Root => write!(f, "root"),
             Ask::Cost => write!(f, "cost"),
+            Ask::Fit(price) => write!(f, "fit {price}"),
+            Ask::Strike => write!(f, "strike"),
         }
     }
 }

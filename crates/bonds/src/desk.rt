@@ -94,6 +94,8 @@ impl<'a> Desk<'a> {
             Ask::Read(t, j) => say::entry(rt, sheet.read(t, j, values, marks)),
             Ask::Root => say::root(rt, sheet.root_figure()),
             Ask::Cost => say::costs(rt, sheet.cost()),
+            Ask::Fit(price) => say::fitted(rt, sheet.fit(price)),
+            Ask::Strike => say::struck(rt, sheet.strike(values)),
         }
     }
 

@@ -46,7 +46,11 @@ static SHORT: [Case; 6] = [
     Case("12 13 14", Ask::Read(0, 1)),
 ];
 
-static UNWORKED: [Case; 2] = [
+// Striking takes the value row alone.
+static STRIKES: [Case; 1] = [Case("12 13", Ask::Strike)];
+
+static UNWORKED: [Case; 3] = [
+    Case("13", Ask::Strike),
     Case("7 13", Ask::Read(3, 0)),
     Case("13 14", Ask::Read(2, 3)),
 ];
@@ -106,6 +110,9 @@ fn short_rows(rt: &LibcRuntime, desk: &mut Desk) -> io::Result<()> {
             "Rows that should have 6 entries: {values} values and {marks} marks"
         )?;
         lines(rt, desk, &SHORT, *lent)?;
+        if values < 6 {
+            lines(rt, desk, &STRIKES, *lent)?;
+        }
     }
     Ok(())
 }

@@ -26,7 +26,7 @@ const CLASHING: [Ask; 6] = [
     Ask::Root,
 ];
 
-static BONDS: [Bond; 9] = [
+static BONDS: [Bond; 10] = [
     Bond {
         title: "Z, callable at step 1",
         rates: Z,
@@ -80,6 +80,26 @@ static BONDS: [Bond; 9] = [
             Ask::Coupon(1, 60_000),
             Ask::Back(1),
             Ask::Read(0, 0),
+        ],
+    },
+    Bond {
+        title: "H, with coupons, callable and putable at step 1, fitted and struck",
+        rates: H,
+        clash: AnyClash::PutPrevails,
+        asks: &[
+            Ask::Coupon(1, 50_000),
+            Ask::Coupon(2, 50_000),
+            Ask::Call(1, 1_000_000, 0),
+            Ask::Put(1, 995_000, 0),
+            Ask::Back(3),
+            Ask::Fit(997_619),
+            Ask::Fit(997_620),
+            Ask::Fit(997_618),
+            Ask::Strike,
+            Ask::Back(2),
+            Ask::Strike,
+            Ask::Fit(0),
+            Ask::Fit(10_000_001),
         ],
     },
     Bond {

@@ -34,6 +34,8 @@ Amounts are ticks of 0.0001; rates and spreads are parts per million for one ste
   back N                                 work the next N steps back                          w 0
   read T J                               node J of step T, if it is worked                   figure 980000 mark 1
   cost                                   what the calls cost and the puts are worth          call 20000 put 0
+  fit PRICE                              the greatest spread that reaches a price            spread 1
+  strike                                 the worked root figure and the spread               struck 997619 0
   table                                  the worked nodes, for people
 
 w is the first worked step. Marks: 0 neither side exercises, 1 the issuer calls, 2 the holder puts, 3 both.

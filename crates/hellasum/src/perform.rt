@@ -112,6 +112,8 @@ fn call(rt: &LibcRuntime, lattice: &Tree, desk: &mut Desk, call: SheetCall) -> i
             ),
         ),
         SheetCall::Cost => say::costs(rt, sheet.cost()),
+        SheetCall::Fit { price } => say::fitted(rt, sheet.fit(price)),
+        SheetCall::Strike => say::struck(rt, sheet.strike(desk.values.as_slice())),
         SheetCall::Table => table::print(
             rt,
             lattice,

@@ -5,8 +5,11 @@ use rates::fault::Layer;
 use rates::fault::Place;
 use sheet::Costs;
 use sheet::Entry;
+use sheet::Released;
 use sheet::SheetFault;
+use sheet::Struck;
 use std::io;
+use std::io::Write;
 
 fn layer_name(layer: Layer) -> &'static str {
     match layer {
@@ -50,6 +53,32 @@ pub fn entry(rt: &LibcRuntime, answer: Result<Entry, SheetFault>) -> io::Result<
 pub fn costs(rt: &LibcRuntime, costs: Costs) -> io::Result<()> {
     let Costs { call, put } = costs;
     println!(rt, "call {call} put {put}")
+}
+
+pub fn fitted(rt: &LibcRuntime, answer: Result<u32, SheetFault>) -> io::Result<()> {
+    match answer {
+        Ok(spread) => println!(rt, "spread {spread}"),
+        Err(fault) => refused_call(rt, fault),
+    }
+}
+
+// A struck price, released and printed.
+pub fn struck(rt: &LibcRuntime, answer: Result<Struck, SheetFault>) -> io::Result<()> {
+    match answer {
+        Ok(struck) => price(rt, &struck.release()),
+        Err(fault) => refused_call(rt, fault),
+    }
+}
+
+fn price(rt: &LibcRuntime, released: &Released) -> io::Result<()> {
+    let mut line = [0; 64];
+    match released.print(&mut line) {
+        Ok(n) => {
+            print!(rt, "struck ")?;
+            rt.stdout().write_all(line.get(0..n).unwrap_or(&[]))
+        }
+        Err(fault) => refused_call(rt, fault),
+    }
 }
 
 pub fn clash(rt: &LibcRuntime, rule: AnyClash) -> io::Result<()> {

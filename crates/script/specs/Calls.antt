@@ -24,7 +24,7 @@ use Rattle.script.specs.declared.forms.Form.the-variants.{Lattice, Clash, Open
 use Rattle.script.specs.declared.forms.LatticeKind.{LatticeKind}
 use Rattle.script.specs.declared.forms.LatticeKind.the-variants.{Binomial, Trinomial, Worst}
 use Rattle.script.specs.declared.forms.SheetForm.{SheetForm}
-use Rattle.script.specs.declared.forms.SheetForm.the-variants.{Coupon, Call, Put, Cancel, Redeem, Spread, Back, Read, Cost, Table}
+use Rattle.script.specs.declared.forms.SheetForm.the-variants.{Coupon, Call, Put, Cancel, Redeem, Spread, Back, Read, Cost, Fit, Strike, Table}
 use Rattle.script.specs.declared.names.Opening.{Opening}
 use Rattle.script.specs.declared.names.Opening.the-variants as opening
 use Rattle.script.specs.Commands.{Meaning, lattice, clash, opened, sheet}
@@ -66,6 +66,8 @@ sheetCall Spread ns = call.Spread (getD ns 0 0)
 sheetCall Back ns = call.Back (getD ns 0 0)
 sheetCall Read ns = call.Read (getD ns 0 0) (getD ns 1 0)
 sheetCall Cost ns = call.Cost
+sheetCall Fit ns = call.Fit (getD ns 0 0)
+sheetCall Strike ns = call.Strike
 sheetCall Table ns = call.Table
 
 -- what a form says with its numbers

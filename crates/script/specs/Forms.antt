@@ -11,7 +11,7 @@ use Rattle.script.specs.declared.forms.Form.the-variants.{Lattice, Clash, Open
 use Rattle.script.specs.declared.forms.LatticeKind.{LatticeKind}
 use Rattle.script.specs.declared.forms.LatticeKind.the-variants.{Binomial, Trinomial, Worst}
 use Rattle.script.specs.declared.forms.SheetForm.{SheetForm}
-use Rattle.script.specs.declared.forms.SheetForm.the-variants.{Coupon, Call, Put, Cancel, Redeem, Spread, Back, Read, Cost, Table}
+use Rattle.script.specs.declared.forms.SheetForm.the-variants.{Coupon, Call, Put, Cancel, Redeem, Spread, Back, Read, Cost, Fit, Strike, Table}
 
 abbrev pub sheetNameLength : SheetForm → ℕ
 sheetNameLength (Cancel r) = 2
@@ -23,6 +23,8 @@ sheetNameLength Spread = 1
 sheetNameLength Back = 1
 sheetNameLength Read = 1
 sheetNameLength Cost = 1
+sheetNameLength Fit = 1
+sheetNameLength Strike = 1
 sheetNameLength Table = 1
 
 abbrev pub nameLength : Form → ℕ
@@ -46,6 +48,8 @@ sheetCount Spread = 1
 sheetCount Back = 1
 sheetCount Read = 2
 sheetCount Cost = 0
+sheetCount Fit = 1
+sheetCount Strike = 0
 sheetCount Table = 0
 
 abbrev pub countOf : Form → ℕ

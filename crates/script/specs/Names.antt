@@ -58,5 +58,7 @@ openingNames =
     ∷ (codes "back", opening.Whole (form.Sheet sheet.Back))
     ∷ (codes "read", opening.Whole (form.Sheet sheet.Read))
     ∷ (codes "cost", opening.Whole (form.Sheet sheet.Cost))
+    ∷ (codes "fit", opening.Whole (form.Sheet sheet.Fit))
+    ∷ (codes "strike", opening.Whole (form.Sheet sheet.Strike))
     ∷ (codes "table", opening.Whole (form.Sheet sheet.Table))
     ∷ []

@@ -121,6 +121,8 @@ fn sheet_call(form: SheetForm, numbers: &[u32]) -> SheetCall
             node: numbers[1],
         },
         SheetForm::Cost => SheetCall::Cost,
+        SheetForm::Fit => SheetCall::Fit { price: numbers[0] },
+        SheetForm::Strike => SheetCall::Strike,
         SheetForm::Table => SheetCall::Table,
     }
 }

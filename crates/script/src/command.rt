@@ -44,6 +44,8 @@ pub enum SheetCall {
     Back { steps: u32 },
     Read { step: u32, node: u32 },
     Cost,
+    Fit { price: u32 },
+    Strike,
     Table,
 }
 

@@ -28,6 +28,8 @@ pub enum SheetForm {
     Back,
     Read,
     Cost,
+    Fit,
+    Strike,
     Table,
 }
 
@@ -81,8 +83,12 @@ impl SheetForm {
         match self {
             SheetForm::Call | SheetForm::Put => 3,
             SheetForm::Coupon | SheetForm::Read => 2,
-            SheetForm::Cancel(_) | SheetForm::Redeem | SheetForm::Spread | SheetForm::Back => 1,
-            SheetForm::Cost | SheetForm::Table => 0,
+            SheetForm::Cancel(_)
+            | SheetForm::Redeem
+            | SheetForm::Spread
+            | SheetForm::Back
+            | SheetForm::Fit => 1,
+            SheetForm::Cost | SheetForm::Strike | SheetForm::Table => 0,
         }
     }
 }

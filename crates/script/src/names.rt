@@ -44,6 +44,8 @@ pub fn first_word(word: &[u8]) -> Option<Opening>
         ("back", Opening::Whole(Form::Sheet(SheetForm::Back))),
         ("read", Opening::Whole(Form::Sheet(SheetForm::Read))),
         ("cost", Opening::Whole(Form::Sheet(SheetForm::Cost))),
+        ("fit", Opening::Whole(Form::Sheet(SheetForm::Fit))),
+        ("strike", Opening::Whole(Form::Sheet(SheetForm::Strike))),
         ("table", Opening::Whole(Form::Sheet(SheetForm::Table))),
     ];
     lookup(&names, word)

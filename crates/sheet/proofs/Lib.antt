@@ -5,3 +5,5 @@ pub mod Validity
 pub mod Standing
 pub mod Promised
 pub mod Worths
+pub mod Fitting
+pub mod Laid

@@ -34,6 +34,10 @@ pub tested-none : (o : Option SheetFault) → tested o ≡ Ok tt → o ≡ None
 tested-none None e = refl
 tested-none (Some f) e = absurd (let z : _≡_ {A = ℕ} 0 1 = cc in omega arith)
 
+pub tested-some : (o : Option SheetFault) (f : SheetFault) → Err f ≡ tested o → o ≡ Some f
+tested-some None f e = absurd (let z : _≡_ {A = ℕ} 0 1 = cc in omega arith)
+tested-some (Some x) f e = cc
+
 pub edit-made : (m : Model) (σ : ℕ → ℕ → ℕ) (e : Edit) (s s′ : State) (n w : ℕ) → n ≡ m .steps → edit-fault n s e ≡ None → s′ ≡ edited n s e → w ≡ s′ .first → Edited m σ e s (Ok w) s′
 edit-made m σ e s s′ n w last none is first =
     let none′ : edit-fault (m .steps) s e ≡ None = ap (λ k. edit-fault k s e) (sym last) ∙ none in
@@ -66,10 +70,6 @@ place-within {m} laws values marks t j long h =
     record { small = omega arith; in-values = omega (arith, room .0); in-marks = omega (arith, room .1) }
 
 module _ (m : Model) (laws : Lawful m) (σ : ℕ → ℕ → ℕ) (fair : Fair σ) (n : ℕ) (s : State) (values marks : List ℕ) where
-  tested-some : (o : Option SheetFault) (f : SheetFault) → Err f ≡ tested o → o ≡ Some f
-  tested-some None f e = absurd (let z : _≡_ {A = ℕ} 0 1 = cc in omega arith)
-  tested-some (Some x) f e = cc
-
   -- short rows: nothing is done
   pub back-refused : (f : SheetFault) (r : Result ℕ SheetFault) → r ≡ Err f → Err f ≡ tested (rows-fault m values marks) → Worked-back m σ n s values marks r s values marks
   back-refused f r is e =

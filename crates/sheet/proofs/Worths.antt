@@ -1,8 +1,18 @@
 -- The root figure and the costs keep their promises. Assumes nothing.
 use mathlib.Core.Path.{_≡_, refl, ap, sym, _∙_, subst}
 use Prim.Native.Nat.{ℕ, _+_, _-_, _≤_}
+use mathlib.Core.Bool.{cond}
+use mathlib.Core.List.{List}
 use native.Mathlib.Omega.{arith}
-use Rattle.std.specs.declared.option.Option.the-variants.{None}
+use lib.Dec.{leb}
+use lib.ListN.{length}
+use Rattle.std.specs.declared.option.Option.the-variants.{Some, None}
+use Rattle.std.proofs.shelf.Tests.{leb-true}
+use Rattle.game.specs.Stored.{all-nodes}
+use Rattle.sheet.specs.declared.fault.SheetFault.the-variants.{Rows, Unworked}
+use Rattle.sheet.specs.Prices.{strike-fault, struck}
+use Rattle.sheet.specs.Shared.{Standing}
+use Rattle.sheet.proofs.Validity.{passed}
 use Rattle.rates.specs.Model.{Model, Lawful}
 use Rattle.game.specs.declared.terms.Terms.{Terms}
 use Rattle.game.specs.declared.terms.Kind.{Kind}
@@ -43,3 +53,11 @@ module _ (m : Model) (laws : Lawful m) (σ : ℕ → ℕ → ℕ) (fair : Fair �
         calls-cost = omega arith;
         puts-worth = omega arith;
       }
+
+-- what is struck from a worked root is the root figure
+pub struck-root : {m : Model} → Lawful m → (σ : ℕ → ℕ → ℕ) (s : State) (values marks : List ℕ) → Standing m σ s values marks → strike-fault m s values ≡ None → struck m s values .figure ≡ root m σ (s .terms) (s .spread)
+struck-root {m} laws σ s values marks st none =
+    let p = passed (leb (all-nodes m) (length values)) (cond (leb (s .first) 0) None (Some (Unworked 0))) (Rows (all-nodes m)) none in
+    let w = leb-true (s .first) 0 (passed (leb (s .first) 0) None (Unworked 0) (p .1) .0) in
+    let one = laws .one-root in
+    st .worked .figures-are 0 0 w (omega arith) (omega arith)

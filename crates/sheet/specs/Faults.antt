@@ -16,9 +16,10 @@ use Rattle.rates.specs.Refusals.{Refusal, Told, accepted, refused}
 use Rattle.rates.specs.declared.fault.Place.{Place}
 use Rattle.rates.specs.declared.fault.Layer.the-variants.{Sheet}
 use Rattle.sheet.specs.declared.fault.SheetFault.{SheetFault}
-use Rattle.sheet.specs.declared.fault.SheetFault.the-variants.{Step, Notice, Amount, Spread, NoRight, Rows, Unworked, NoNode, TooLarge}
+use Rattle.sheet.specs.declared.fault.SheetFault.the-variants.{Output, Step, Notice, Amount, Spread, NoRight, Rows, Unworked, NoNode, TooLarge, Wanted}
 
 abbrev pub sheet-number : SheetFault → ℕ
+sheet-number (Output _) = 1
 sheet-number (Step _) = 7
 sheet-number (Notice _) = 8
 sheet-number (Amount _) = 9
@@ -28,8 +29,10 @@ sheet-number (Rows _) = 12
 sheet-number (Unworked _) = 13
 sheet-number (NoNode _) = 14
 sheet-number (TooLarge _) = 15
+sheet-number Wanted = 16
 
 abbrev pub sheet-place : SheetFault → Place
+sheet-place (Output wanted) = record { at = wanted; layer = Sheet }
 sheet-place (Step t) = record { at = t; layer = Sheet }
 sheet-place (Notice t) = record { at = t; layer = Sheet }
 sheet-place (Amount t) = record { at = t; layer = Sheet }
@@ -39,6 +42,7 @@ sheet-place (Rows wanted) = record { at = wanted; layer = Sheet }
 sheet-place (Unworked t) = record { at = t; layer = Sheet }
 sheet-place (NoNode j) = record { at = j; layer = Sheet }
 sheet-place (TooLarge t) = record { at = t; layer = Sheet }
+sheet-place Wanted = record { at = 0; layer = Sheet }
 
 abbrev pub sheet-refusal : SheetFault → Refusal
 sheet-refusal f = record { number = sheet-number f; trail = sheet-place f ∷ [] }

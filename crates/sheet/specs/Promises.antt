@@ -3,10 +3,12 @@
 --   Worked-back   the same of working back, with its rows
 --   Root-figure   the figure of node 0 of step 0, as a value of best play
 --   Costed        the costs at the root, which are never below 0
+--   Fitted        a fit: its answer, the state that it leaves, and that its spread is the greatest one
 -- Assumes nothing.
 use mathlib.Core.Path.{_≡_}
 use mathlib.Core.List.{List}
 use Prim.Native.Nat.{ℕ, _+_, _-_, _≤_, _<_}
+use Rattle.std.specs.declared.option.Option.the-variants.{None}
 use Rattle.std.specs.declared.result.Result.{Result}
 use Rattle.rates.specs.Model.{Model}
 use Rattle.rates.specs.Refusals.{told}
@@ -20,6 +22,7 @@ use Rattle.sheet.specs.declared.fault.SheetFault.{SheetFault}
 use Rattle.sheet.specs.Faults.{sheet-refusal, answer, unless}
 use Rattle.sheet.specs.Edits.{edited, edit-fault}
 use Rattle.sheet.specs.Calls.{back-fault, worked-back, values-after, marks-after, costs}
+use Rattle.sheet.specs.Fits.{greatest, fit-fault, fitted, Greatest}
 use Rattle.sheet.specs.Shared.{Standing, Best-stored}
 
 pub record Edited (m : Model) (σ : ℕ → ℕ → ℕ) (e : Edit) (before : State) (r : Result ℕ SheetFault) (after : State) : Type 0 where
@@ -47,3 +50,9 @@ pub record Costed (m : Model) (σ : ℕ → ℕ → ℕ) (s : State) (r : Costs)
   pub value : r ≡ costs m σ s
   pub calls-cost : root m σ (s .terms) (s .spread) + r .call ≡ root m σ (without Call (s .terms)) (s .spread)
   pub puts-worth : root m σ (without Put (s .terms)) (s .spread) + r .put ≡ root m σ (s .terms) (s .spread)
+
+pub record Fitted (m : Model) (σ : ℕ → ℕ → ℕ) (want : ℕ) (before : State) (r : Result ℕ SheetFault) (after : State) : Type 0 where
+  pub answers : told sheet-refusal r ≡ answer (fit-fault m σ before want) (greatest m σ (before .terms) want 200000)
+  pub leaves : after ≡ unless (fit-fault m σ before want) (fitted m σ before want) before
+  pub is-greatest : fit-fault m σ before want ≡ None → Greatest m σ (before .terms) want (greatest m σ (before .terms) want 200000)
+  pub keeps : (values marks : List ℕ) → Standing m σ before values marks → Standing m σ after values marks

@@ -8,6 +8,7 @@ ghost use Rattle.game.specs.Game.{root};
 ghost use Rattle.game.specs.Limits.{Payable, Priced};
 ghost use Rattle.game.specs.Stored.{offset as offset-of, all-nodes, stored};
 ghost use Rattle.game.specs.Working.{back-values, back-marks, over};
+ghost use Rattle.sheet.specs.Fits.{Greatest};
 use crate::step;
 use game::clash::ClashRule;
 use game::terms::Terms;
@@ -117,4 +118,29 @@ pub(crate) fn root_of<L: Lattice, K: ClashRule>(
         step::work_step(lattice, clash, terms, spread, t, &mut figures, &mut stamps);
     }
     figures[0]
+}
+
+// The greatest spread whose root figure is at least `want`, by halving.
+pub(crate) fn greatest_spread<L: Lattice, K: ClashRule>(
+    lattice: &L,
+    clash: &K,
+    terms: &Terms,
+    want: u32,
+) -> u32
+    requires payable { ⌜ Payable (now terms) ⌝ }
+    requires priced { ⌜ Priced (now terms) ⌝ }
+    requires reached { ⌜ want ≤ root (L·Lattice .model (now lattice)) (K·ClashRule .settled (now clash)) (now terms) 0 ⌝ }
+    ensures { λ r. ⌜ Greatest (L·Lattice .model (now (lattice .entry))) (K·ClashRule .settled (now (clash .entry))) (now (terms .entry)) want r ⌝ }
+{
+    let mut low = 0;
+    let mut high = 200_001;
+    while high - low > 1 {
+        let spread = (low + high) / 2;
+        if root_of(lattice, clash, terms, spread) >= want {
+            low = spread;
+        } else {
+            high = spread;
+        }
+    }
+    low
 }

@@ -22,7 +22,7 @@ pub enum Edit {
     Spread(u32),
 }
 
-fn check_amount(place: usize, amount: u32) -> Result<(), SheetFault>
+pub(crate) fn check_amount(place: usize, amount: u32) -> Result<(), SheetFault>
     ensures { λ r. ⌜ r ≡ tested (amount-fault place amount) ⌝ }
 {
     if amount > 10_000_000 {

@@ -6,6 +6,8 @@ use rates::fault::Place;
 
 #[derive(Clone, Copy, PartialEq, Eq)]
 pub enum SheetFault {
+    // how many bytes the output should have
+    Output(usize),
     // a step out of range
     Step(usize),
     // the step of a right whose notice runs past the last step
@@ -24,6 +26,8 @@ pub enum SheetFault {
     NoNode(usize),
     // a step with a figure above 650,000,000
     TooLarge(usize),
+    // a wanted price above the root figure at spread 0
+    Wanted,
 }
 
 impl SheetFault {
@@ -31,6 +35,7 @@ impl SheetFault {
         ensures { λ r. ⌜ r ≡ sheet-number (now (self .entry)) ⌝ }
     {
         match self {
+            SheetFault::Output(_) => 1,
             SheetFault::Step(_) => 7,
             SheetFault::Notice(_) => 8,
             SheetFault::Amount(_) => 9,
@@ -40,6 +45,7 @@ impl SheetFault {
             SheetFault::Unworked(_) => 13,
             SheetFault::NoNode(_) => 14,
             SheetFault::TooLarge(_) => 15,
+            SheetFault::Wanted => 16,
         }
     }
 
@@ -47,14 +53,14 @@ impl SheetFault {
         ensures { λ r. ⌜ r ≡ sheet-place (now (self .entry)) ⌝ }
     {
         let at = match self {
-            SheetFault::Spread => 0,
+            SheetFault::Spread | SheetFault::Wanted => 0,
             SheetFault::Step(t)
             | SheetFault::Notice(t)
             | SheetFault::Amount(t)
             | SheetFault::NoRight(t)
             | SheetFault::Unworked(t)
             | SheetFault::TooLarge(t) => *t,
-            SheetFault::Rows(wanted) => *wanted,
+            SheetFault::Output(wanted) | SheetFault::Rows(wanted) => *wanted,
             SheetFault::NoNode(j) => *j,
         };
         Place {

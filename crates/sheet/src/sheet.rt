@@ -14,6 +14,8 @@ use game::terms::Terms;
 use lattice::Lattice;
 
 mod edits;
+mod fit;
+mod strike;
 pub mod work;
 mod worth;
 

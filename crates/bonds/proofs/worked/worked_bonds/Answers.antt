@@ -1,4 +1,5 @@
 use mathlib.Core.Path.{refl}
+use Rattle.bonds.proofs.Fitted.{fitted}
 use Rattle.bonds.proofs.worked.worked_bonds.Needs as need
 
 pub returns : need.returns
@@ -11,6 +12,9 @@ returns c = record {
   h-called-root = refl;
   h-both-root = refl;
   h-both-costs = refl;
+  h-fitted = fitted;
+  h-fit-taken = (refl, refl, refl);
+  h-fit-refused = refl;
   h-reopened-first = refl;
   h-worked-once = λ a b c d e f. refl;
   h-marked-once = λ a b c d e f. refl;
