@@ -13,14 +13,13 @@
 --   call_amount    what the call pays at the root
 --   both_costs     what the call of h_both costs, and what its put is worth
 --   fit            the spread that a wanted price is fitted to
---   both_record    the bytes of h_both as a record
 --   worked_once    the value row once h_both is worked back to the root; marked_once the mark row
 --   worked_again   the value row once h_reopened is worked one step more
 --   low_first      weights of 200, 500 and 300; high_first of 500, 200 and 300
 --   rolled_row     what a lattice of one step rolls from the entries 100, 200 and 400
 --   WorkedBonds    what each of them shows
 -- Assumes nothing.
-use Rattle.std.specs.Prelude.{◌≡◌, ℕ, List, [], ◌∷◌, Some, None, Ok, Option}
+use Rattle.std.specs.Prelude.{◌≡◌, ℕ, List, [], ◌∷◌, Some, None, Option}
 use Rattle.rates.specs.Model.{Model}
 use Rattle.rates.specs.Formulas.{binomial, trinomial, worst_case}
 use Rattle.rates.specs.declared.weights.Triple.{Triple}
@@ -29,15 +28,13 @@ use Rattle.game.specs.Game.{figure, mark, amount, root, rolled_on}
 use Rattle.game.specs.declared.terms.Kind.TheVariants.{Call, Put}
 use Rattle.sheet.specs.Calls.{costs, worked_back, values_after, marks_after}
 use Rattle.sheet.specs.Edits.{opened, edited}
-use Rattle.sheet.specs.Fits.{greatest, fit_fault, fitted}
+use Rattle.sheet.specs.Fits.{greatest, fit_fault}
 use Rattle.sheet.specs.declared.answer.Costs.{Costs}
 use Rattle.sheet.specs.declared.answer.Entry.{Entry}
 use Rattle.sheet.specs.declared.edit.Edit.{Edit}
 use Rattle.sheet.specs.declared.fault.SheetFault.TheVariants.{Wanted}
 use Rattle.sheet.specs.declared.edit.Edit.TheVariants.{Coupon, Enter}
 use Rattle.sheet.specs.declared.state.State.{State}
-use Rattle.record.specs.Decode.{decode}
-use Rattle.record.specs.Encode.{encode}
 
 abbrev pub Z : Model
 Z = binomial 2 (0 ∷ 0 ∷ 0 ∷ [])
@@ -91,14 +88,6 @@ both_costs = record { call = 4578; put = 2112 }
 abbrev pub fit : ℕ → ℕ
 fit want = greatest H put_prevails h_both.terms want 200000
 
--- a map of coupons, calls and puts; two coupons; a call; a put
-abbrev pub both_record : List ℕ
-both_record =
-    0x1c
-    ∷ 2 ∷ 1 ∷ 0 ∷ 0 ∷ 0xc3 ∷ 0x50 ∷ 2 ∷ 0 ∷ 0 ∷ 0xc3 ∷ 0x50
-    ∷ 1 ∷ 1 ∷ 0 ∷ 0 ∷ 0x0f ∷ 0x42 ∷ 0x40
-    ∷ 1 ∷ 1 ∷ 0 ∷ 0 ∷ 0x0f ∷ 0x2e ∷ 0xb8 ∷ []
-
 abbrev pub worked_once : List ℕ → List ℕ
 worked_once row = values_after H put_prevails h_both 3 row
 
@@ -132,13 +121,6 @@ pub record WorkedBonds : Type 0 where
   pub h_fitted : (fit 997619 ≡ 0) × (fit 997618 ≡ 1) × (fit 0 ≡ 200000)
   pub h_fit_taken : (fit_fault H put_prevails h_both 997619 ≡ None) × (fit_fault H put_prevails h_both 997618 ≡ None) × (fit_fault H put_prevails h_both 0 ≡ None)
   pub h_fit_refused : fit_fault H put_prevails h_both 997620 ≡ Some Wanted
-  -- fitted once it was worked to step 0, it has step 2 as the first worked one
-  pub h_fit_first : (fitted H put_prevails (worked_back h_both 3) 997618).first ≡ 2
-  -- as a record, and back
-  pub h_both_saved : encode h_both.terms h_both.spread ≡ both_record
-  pub h_both_loaded : decode 2 both_record ≡ Ok (h_both.terms, h_both.spread)
-  -- nothing is worked while terms are entered
-  pub unworked_first : (z_called.first ≡ 3) × (h_both.first ≡ 3) × (z_clashing.first ≡ 3)
   -- worked to step 0, a coupon at step 1 leaves step 1 the first worked step, and one step back renews the root alone
   pub h_reopened_first : h_reopened.first ≡ 1
   pub h_worked_once : (a b c d e f : ℕ) → worked_once (a ∷ b ∷ c ∷ d ∷ e ∷ f ∷ []) ≡ 997619 ∷ 1000000 ∷ 995000 ∷ 1000000 ∷ 1000000 ∷ 1000000 ∷ []

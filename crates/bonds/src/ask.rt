@@ -12,10 +12,6 @@ pub enum Ask {
     Cancel(Kind, usize),
     Redeem(u32),
     Spread(u32),
-    // the bytes of a record
-    Load(&'static [u8]),
-    // how many bytes of output it is lent
-    Save(usize),
     Back(usize),
     // a step and a node
     Read(usize, usize),
@@ -36,14 +32,6 @@ impl fmt::Display for Ask {
             Ask::Cancel(Kind::Put, t) => write!(f, "cancel put {t}"),
             Ask::Redeem(amount) => write!(f, "redeem {amount}"),
             Ask::Spread(spread) => write!(f, "spread {spread}"),
-            Ask::Load(bytes) => {
-                f.write_str("load ")?;
-                for byte in *bytes {
-                    write!(f, "{byte:02x}")?;
-                }
-                Ok(())
-            }
-            Ask::Save(room) => write!(f, "save in {room}"),
             Ask::Back(steps) => write!(f, "back {steps}"),
             Ask::Read(t, j) => write!(f, "read {t} {j}"),
             Ask::Root => write!(f, "root"),

@@ -11,7 +11,6 @@ use crate::say;
 use game::clash::AnyClash;
 use lattice::tree::Tree;
 use rates::kind::Kind;
-use record::RecordFault;
 use sheet::{Costs, Sheet};
 use std::io;
 
@@ -42,22 +41,6 @@ pub struct Desk<'a> {
     sheet: Sheet<Tree<'a>, AnyClash>,
     values: [u32; 6],
     marks: [u8; 6],
-}
-
-// Saves into the first `room` bytes of an output, or into all.
-fn save_in(
-    sheet: &Sheet<Tree, AnyClash>,
-    room: usize,
-    out: &mut [u8],
-) -> Result<usize, RecordFault> {
-    let n = room.min(out.len());
-    record::save(sheet, &mut out[0..n])
-}
-
-fn save(rt: &HostRuntime, sheet: &Sheet<Tree, AnyClash>, room: usize) -> io::Result<()> {
-    let mut out = [0; 32];
-    let answer = save_in(sheet, room, &mut out);
-    say::saved(rt, answer, &out)
 }
 
 impl<'a> Desk<'a> {
@@ -101,8 +84,6 @@ impl<'a> Desk<'a> {
             Ask::Cancel(kind, t) => say::first_worked(rt, sheet.cancel(kind, t)),
             Ask::Redeem(amount) => say::first_worked(rt, sheet.redeem(amount)),
             Ask::Spread(spread) => say::first_worked(rt, sheet.spread(spread)),
-            Ask::Load(bytes) => say::loaded(rt, record::load(sheet, bytes)),
-            Ask::Save(room) => save(rt, sheet, room),
             Ask::Back(steps) => say::first_worked(rt, sheet.back(steps, values, marks)),
             Ask::Read(t, j) => say::entry(rt, sheet.read(t, j, values, marks)),
             Ask::Root => say::root(rt, sheet.root_figure()),

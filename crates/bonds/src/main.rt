@@ -1,8 +1,7 @@
-// Prints worked bonds, the limits of what is taken, which ground of two is answered, and records.
+// Prints worked bonds, the limits of what is taken, and which ground of two is answered.
 mod ask;
 mod desk;
 mod limits;
-mod records;
 mod refusals;
 mod rolls;
 mod say;
@@ -24,6 +23,5 @@ fn main(rt: HostRuntime) -> io::Result<()> {
     }
     rolls::print(&rt)?;
     limits::print(&rt)?;
-    refusals::print(&rt)?;
-    records::print(&rt)
+    refusals::print(&rt)
 }

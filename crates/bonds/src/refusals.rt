@@ -9,7 +9,7 @@ use std::io;
 // The numbers of the grounds that a case is about, and its call. A step past the last is never worked and has no nodes,
 // so that 13 and 14 go with its 7.
 #[derive(Clone, Copy)]
-pub struct Case(pub &'static str, pub Ask);
+struct Case(&'static str, Ask);
 
 static EDITS: [Case; 13] = [
     Case("7 9", Ask::Coupon(0, 10_000_001)),
@@ -68,7 +68,7 @@ fn line(rt: &HostRuntime, desk: &mut Desk, case: Case, lent: Lent) -> io::Result
     println!(rt; ", w {w}, {word}")
 }
 
-pub fn lines(rt: &HostRuntime, desk: &mut Desk, cases: &[Case], lent: Lent) -> io::Result<()> {
+fn lines(rt: &HostRuntime, desk: &mut Desk, cases: &[Case], lent: Lent) -> io::Result<()> {
     for case in cases {
         line(rt, desk, *case, lent)?;
     }

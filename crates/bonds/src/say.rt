@@ -1,5 +1,4 @@
 // Answers as they are printed.
-use record::RecordFault;
 use sheet::{Costs, Entry, Released, SheetFault, Struck};
 use std::io;
 use std::io::Write;
@@ -14,40 +13,6 @@ pub fn first_worked(rt: &HostRuntime, answer: Result<usize, SheetFault>) -> io::
     match answer {
         Ok(w) => print!(rt; "w {w}"),
         Err(fault) => refused(rt, fault),
-    }
-}
-
-// The record's own place, and behind it the sheet's.
-fn refused_record(rt: &HostRuntime, fault: RecordFault) -> io::Result<()> {
-    let number = fault.number();
-    let at = fault.place().at;
-    print!(rt; "refused {number} {at}")?;
-    match fault.sheet_place() {
-        Some(place) => {
-            let at = place.at;
-            print!(rt; " {at}")
-        }
-        None => Ok(()),
-    }
-}
-
-pub fn loaded(rt: &HostRuntime, answer: Result<usize, RecordFault>) -> io::Result<()> {
-    match answer {
-        Ok(w) => print!(rt; "w {w}"),
-        Err(fault) => refused_record(rt, fault),
-    }
-}
-
-pub fn saved(rt: &HostRuntime, answer: Result<usize, RecordFault>, out: &[u8]) -> io::Result<()> {
-    match answer {
-        Ok(n) => {
-            rt.print("record ")?;
-            for byte in out.get(0..n).unwrap_or(&[]) {
-                print!(rt; "{byte:02x}")?;
-            }
-            Ok(())
-        }
-        Err(fault) => refused_record(rt, fault),
     }
 }
 

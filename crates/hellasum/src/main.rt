@@ -1,7 +1,7 @@
 // Values callable and putable bonds from a script.
-mod calls;
 mod perform;
 mod say;
+mod table;
 
 use perform::run;
 use script::{ReadError, read_script};
@@ -27,8 +27,6 @@ Amounts are ticks of 0.0001; rates and spreads are parts per million for one ste
   cancel call T | cancel put T           no such right at step T                             w 3
   redeem AMOUNT                          the redemption at the last step                     w 3
   spread S                               a spread over every rate                            w 3
-  load HEX..                             terms and spread from a record                      w 3
-  save                                   the record of terms and spread                      record 1c02..
   back N                                 work the next N steps back                          w 0
   read T J                               node J of step T, if it is worked                   figure 980000 mark 1
   cost                                   what the calls cost and the puts are worth          call 20000 put 0
@@ -37,8 +35,7 @@ Amounts are ticks of 0.0001; rates and spreads are parts per million for one ste
   table                                  the worked nodes, for people
 
 w is the first worked step. Marks: 0 neither side exercises, 1 the issuer calls, 2 the holder puts, 3 both.
-A call that is turned down answers: refused NUMBER PLACE LAYER, and the script goes on; a term that a record may not
-have is told with two places, the record's and then the sheet's. A line that is no call is
+A call that is turned down answers: refused NUMBER PLACE LAYER, and the script goes on. A line that is no call is
 reported with its number; nothing is performed then, and the exit status is 1.
 ";
 

@@ -1,89 +1,34 @@
-// A script's commands, performed in order: all calls of a sheet in one list, from its opening on.
-use crate::calls::{calls_of, saved_bytes};
-use crate::say;
+// A script's commands, performed in order.
+use crate::{say, table};
 use game::clash::AnyClash;
+use game::terms::Kind as Side;
 use lattice::Lattice;
 use lattice::tree::Tree;
 use rates::kind::Kind;
 use rates::weights::Triple;
-use script::{ClashRule, Command, Shape, SheetCall, Weights};
-use session::{Fault, Reply};
+use script::{ClashRule, Command, Right, Shape, SheetCall, Weights};
 use sheet::{Sheet, all_nodes};
 use std::alloc::{AllocError, Global};
 use std::io;
-use std::vec::IntoIter;
 
 // The rates of the lattice that stands before any is named.
 static FLAT: [u32; 1] = [0];
 
-// What the calls of a sheet answered, and the output that they saved into.
+// A sheet with its rows.
 #[derive(Drop)]
-struct Answers<'a> {
-    lattice: Tree<'a>,
-    left: IntoIter<Option<Result<Reply, Fault>>>,
-    output: Vec<u8>,
+struct Desk<'a> {
+    sheet: Sheet<Tree<'a>, AnyClash>,
+    values: Vec<u32>,
+    marks: Vec<u8>,
 }
 
-// Performs the calls of a sheet: those of the commands up to the next `open`.
-fn perform<'a>(
-    heap: Global,
-    lattice: Tree<'a>,
-    clash: AnyClash,
-    commands: &[Command],
-) -> Result<Answers<'a>, AllocError> {
-    let calls = calls_of(heap, &lattice, commands)?;
+fn open<'a>(heap: Global, lattice: Tree<'a>, clash: AnyClash) -> Result<Desk<'a>, AllocError> {
     let n = all_nodes(&lattice);
-    let mut values = vec![in heap; 0; n]?;
-    let mut marks = vec![in heap; 0; n]?;
-    let mut output = vec![in heap; 0; saved_bytes(&calls)]?;
-    let mut answers = Vec::new(heap);
-    for _ in 0..calls.len() {
-        answers.push(None)?;
-    }
-    let _ = session::run(
-        lattice,
-        clash,
-        values.as_mut_slice(),
-        marks.as_mut_slice(),
-        calls.as_slice(),
-        answers.as_mut_slice(),
-        output.as_mut_slice(),
-    );
-    Ok(Answers {
-        lattice,
-        left: answers.into_iter(),
-        output,
+    Ok(Desk {
+        sheet: Sheet::open(lattice, clash),
+        values: vec![in heap; 0; n]?,
+        marks: vec![in heap; 0; n]?,
     })
-}
-
-// Prints the answer of the next call.
-fn answer(rt: &HostRuntime, answers: &mut Answers) -> io::Result<()> {
-    match answers.left.next() {
-        Some(Some(Ok(reply))) => say::reply(rt, reply, answers.output.as_slice()),
-        Some(Some(Err(fault))) => say::refused(rt, fault),
-        _ => Ok(()),
-    }
-}
-
-// Prints the table of the worked nodes from the answers of the next reads, one for each node.
-fn table(rt: &HostRuntime, answers: &mut Answers) -> io::Result<()> {
-    let lattice = answers.lattice;
-    let mut headed = false;
-    for t in 0..lattice.steps() + 1 {
-        for j in 0..lattice.nodes(t) {
-            if let Some(Some(Ok(Reply::Read(entry)))) = answers.left.next() {
-                if !headed {
-                    say::table_head(rt)?;
-                    headed = true;
-                }
-                say::table_line(rt, t, j, entry)?;
-            }
-        }
-    }
-    if headed {
-        return Ok(());
-    }
-    rt.println("no step is worked")
 }
 
 fn triple(w: Weights) -> Triple {
@@ -110,15 +55,76 @@ fn rule(name: ClashRule) -> AnyClash {
     }
 }
 
-// Before any line that names them, the lattice has one step and rate 0, and the rule is put prevails. The reader of
-// scripts asks for an `open` before any call of a sheet.
+fn side(right: Right) -> Side {
+    match right {
+        Right::Call => Side::Call,
+        Right::Put => Side::Put,
+    }
+}
+
+fn call(rt: &HostRuntime, lattice: &Tree, desk: &mut Desk, call: SheetCall) -> io::Result<()> {
+    let sheet = &mut desk.sheet;
+    match call {
+        SheetCall::Coupon { step, amount } => say::first_worked(
+            rt,
+            sheet.coupon(step as usize, amount),
+        ),
+        SheetCall::Call {
+            step,
+            price,
+            notice,
+        } => say::first_worked(rt, sheet.call(step as usize, price, notice as usize)),
+        SheetCall::Put {
+            step,
+            price,
+            notice,
+        } => say::first_worked(rt, sheet.put(step as usize, price, notice as usize)),
+        SheetCall::Cancel { right, step } => say::first_worked(
+            rt,
+            sheet.cancel(side(right), step as usize),
+        ),
+        SheetCall::Redeem { amount } => say::first_worked(rt, sheet.redeem(amount)),
+        SheetCall::Spread { spread } => say::first_worked(rt, sheet.spread(spread)),
+        SheetCall::Back { steps } => say::first_worked(
+            rt,
+            sheet.back(
+                steps as usize,
+                desk.values.as_mut_slice(),
+                desk.marks.as_mut_slice(),
+            ),
+        ),
+        SheetCall::Read { step, node } => say::entry(
+            rt,
+            sheet.read(
+                step as usize,
+                node as usize,
+                desk.values.as_slice(),
+                desk.marks.as_slice(),
+            ),
+        ),
+        SheetCall::Cost => say::costs(rt, sheet.cost()),
+        SheetCall::Fit { price } => say::fitted(rt, sheet.fit(price)),
+        SheetCall::Strike => say::struck(rt, sheet.strike(desk.values.as_slice())),
+        SheetCall::Table => table::print(
+            rt,
+            lattice,
+            sheet,
+            desk.values.as_slice(),
+            desk.marks.as_slice(),
+        ),
+    }
+}
+
+// A sheet stands open from the start, on the lattice of one step and rate 0, under put prevails; the reader of
+// scripts asks for an `open` before any call of it.
 pub fn run(rt: &HostRuntime, commands: &[Command]) -> io::Result<()> {
     let heap = rt.alloc();
     let mut lattice = Tree::new(Kind::Binomial, 1, &FLAT);
     let mut clash = AnyClash::PutPrevails;
-    let mut answers = perform(heap, lattice, clash, commands)?;
-    for i in 0..commands.len() {
-        match &commands[i] {
+    let mut opened = lattice;
+    let mut desk = open(heap, lattice, clash)?;
+    for command in commands {
+        match command {
             Command::Lattice {
                 shape,
                 steps,
@@ -139,11 +145,11 @@ pub fn run(rt: &HostRuntime, commands: &[Command]) -> io::Result<()> {
                 say::clash(rt, clash)?;
             }
             Command::Open => {
-                answers = perform(heap, lattice, clash, &commands[i + 1..])?;
-                say::first_worked(rt, Sheet::open(lattice, clash).first_worked())?;
+                opened = lattice;
+                desk = open(heap, lattice, clash)?;
+                say::first_worked(rt, Ok(desk.sheet.first_worked()))?;
             }
-            Command::Sheet(SheetCall::Table) => table(rt, &mut answers)?,
-            Command::Sheet(_) | Command::Load(_) => answer(rt, &mut answers)?,
+            Command::Sheet(made) => call(rt, &opened, &mut desk, *made)?,
         }
     }
     Ok(())

@@ -2,14 +2,11 @@
 mod split;
 mod states;
 
-use game::terms::Kind;
 use lattice::Lattice;
-use session::{Call, Fault, Reply};
-use sheet::{Edit, Sheet, SheetFault, Struck, all_nodes};
+use sheet::{Sheet, SheetFault, all_nodes};
 use split::Split;
 use states::TwoStates;
 use std::io;
-use std::io::Write;
 
 // The sheet of a maker.
 type Bond = Sheet<TwoStates, Split>;
@@ -99,84 +96,9 @@ fn work(rt: &HostRuntime, lattice: TwoStates) -> io::Result<()> {
     cost(rt, &bond)
 }
 
-// A price, released and printed.
-fn print_price(rt: &HostRuntime, struck: Struck) -> io::Result<()> {
-    let mut line = [0; 64];
-    match struck.release().print(&mut line) {
-        Ok(n) => rt.stdout().write_all(line.get(0..n).unwrap_or(&[])),
-        Err(fault) => refused(rt, fault),
-    }
-}
-
-fn tell(rt: &HostRuntime, answer: Result<Reply, Fault>) -> io::Result<()> {
-    match answer {
-        Ok(Reply::First(w)) => println!(rt; "w {w}"),
-        Ok(Reply::Saved(at, n)) => println!(rt; "record of {n} bytes at {at}"),
-        Ok(Reply::Read(entry)) => {
-            let figure = entry.figure;
-            let mark = entry.mark;
-            println!(rt; "figure {figure} mark {mark}")
-        }
-        Ok(Reply::Costs(costs)) => {
-            let call = costs.call;
-            let put = costs.put;
-            println!(rt; "call {call} put {put}")
-        }
-        Ok(Reply::Fitted(spread)) => println!(rt; "spread {spread}"),
-        Ok(Reply::Struck(struck)) => print_price(rt, struck),
-        Err(Fault::Sheet(fault)) => refused(rt, fault),
-        Err(Fault::Record(fault)) => {
-            let number = fault.number();
-            let at = fault.place().at;
-            println!(rt; "refused {number} {at}")
-        }
-    }
-}
-
-// Two users of one sheet: the second enters a put halfway through the first one's recalculation.
-static TURNS: [Call<'static>; 10] = [
-    Call::Edit(Edit::Coupon(1, 50_000)),
-    Call::Edit(Edit::Enter(Kind::Call, 1, 1_000_000, 0)),
-    Call::Back(3),
-    Call::Edit(Edit::Enter(Kind::Put, 1, 990_000, 1)),
-    Call::Strike,
-    Call::Back(4),
-    Call::Strike,
-    Call::Read(1, 0),
-    Call::Save(20),
-    Call::Save(21),
-];
-
-// The same lattice and rule in a run.
-fn share(rt: &HostRuntime, lattice: TwoStates) -> io::Result<()> {
-    let mut values = [0; 7];
-    let mut marks = [0; 7];
-    let mut answers = [None, None, None, None, None, None, None, None, None, None];
-    let mut output = [0; 41];
-    rt.println("shared")?;
-    let _ = session::run(
-        lattice,
-        Split,
-        &mut values,
-        &mut marks,
-        &TURNS,
-        &mut answers,
-        &mut output,
-    );
-    for answer in answers {
-        if let Some(answer) = answer {
-            tell(rt, answer)?;
-        }
-    }
-    Ok(())
-}
-
 fn main(rt: HostRuntime) -> io::Result<()> {
     match TwoStates::new(3, 20_000, 80_000) {
-        Some(lattice) => {
-            work(&rt, lattice)?;
-            share(&rt, lattice)
-        }
+        Some(lattice) => work(&rt, lattice),
         None => rt.println("no such lattice"),
     }
 }

@@ -9,8 +9,9 @@ use Rattle.script.specs.declared.fault.Expected.TheVariants as expected
 use Rattle.script.specs.declared.fault.LineError.{LineError}
 use Rattle.script.specs.declared.fault.LineError.TheVariants.{Fault, Memory}
 use Rattle.script.specs.declared.forms.Form.{Form}
-use Rattle.script.specs.declared.forms.Form.TheVariants.{Lattice, Clash, Open, Sheet, Load}
-use Rattle.script.specs.Calls.{read, form_of, command_of, call_of, with_form, with_words}
+use Rattle.script.specs.declared.forms.Form.TheVariants.{Lattice, Clash, Open, Sheet}
+use Rattle.script.specs.Calls.{meaning, form_of, call_of, with_form, with_words, with_numbers}
+use Rattle.script.specs.Commands.{Meaning}
 use Rattle.script.specs.Cuts.{texts}
 use Rattle.script.specs.Faults.{Gives}
 use Rattle.script.specs.Forms.{name_length, lattice_count, sheet_count, count_of, takes}
@@ -22,7 +23,6 @@ count_within (Lattice k) n e = leb-true (lattice_count k) n e
 count_within (Clash r) n e = omega arith
 count_within Open n e = omega arith
 count_within (Sheet s) n e = omega (arith, eqb-true n (sheet_count s) e)
-count_within Load n e = omega arith
 
 -- a number for each word
 numbers_length : (ws : List (List ℕ)) → IfSome (numbers_of ws) (λ ns. length ns ≡ length ws)
@@ -34,28 +34,13 @@ numbers_length (w ∷ ws) = both (number_of w) (numbers_of ws) (numbers_length w
     both (Some n) None h = tt
     both (Some n) (Some ns) h = ap suc h
 
-was_read : {X : Type 0} (e : Expected) (o : Option X) {x : X} → ok_or o e ≡ Ok x → o ≡ Some x
-was_read e None h = absurd (let z : ◌≡◌ {A = ℕ} 0 1 = cc in omega arith)
-was_read e (Some y) h = cc
+read_numbers : (f : Form) (o : Option (List ℕ)) (ns : List ℕ) → ok_or o (expected.Number f) ≡ Ok ns → o ≡ Some ns
+read_numbers f None ns e = absurd (let z : ◌≡◌ {A = ℕ} 0 1 = cc in omega arith)
+read_numbers f (Some ms) ns e = cc
 
--- what is made of what was read
-pub read_ok : {X Y : Type 0} (f : X → Y) (e : Expected) (o : Option X) {x : X} → ok_or o e ≡ Ok x → read f e o ≡ Ok (f x)
-read_ok f e o h = ap (read f e) (was_read e o h)
-
--- a call stops where its words do
-pub read_stopped : {A B X Y : Type 0} (g : A → X) (h : B → Y) (f : X → Y) (e : Expected) (o : Option X) (x : LineError) → Gives g (ok_or o e) (Err x) → Gives h (read f e o) (Err x)
-read_stopped g h f e None (Fault x) r = cc
-read_stopped g h f e (Some y) (Fault x) r = absurd (let z : ◌≡◌ {A = ℕ} 0 1 = cc in omega arith)
-read_stopped g h f e o Memory r = tt
-
-same_length : (vs : List (Bor (List ℕ))) → length (texts vs) ≡ length vs
-same_length vs = length-map vs (λ w. w.now)
-
--- a form that takes the words has its numbers among them
-pub enough : (f : Form) {g : Form} → g ≡ f → (vs : List (Bor (List ℕ))) (e : Expected) {ns : List ℕ} → takes g (length vs) ≡ true → ok_or (numbers_of (texts vs)) e ≡ Ok ns → count_of f ≤ length ns
-enough f is vs e {ns} counted numbers =
-    let k = MatchOption-at_some (Unit {0}) (λ (ms : List ℕ). length ms ≡ length (texts vs)) ns (was_read e (numbers_of (texts vs)) numbers) (numbers_length (texts vs)) in
-    omega (arith, count_within f (length vs) (ap (λ (g : Form). takes g (length vs)) (sym is) ∙ counted), k ∙ same_length vs)
+unread_numbers : (f : Form) (o : Option (List ℕ)) (x : Expected) → ok_or o (expected.Number f) ≡ Err x → with_numbers f o ≡ Err x
+unread_numbers f None x e = cc
+unread_numbers f (Some ms) x e = absurd (let z : ◌≡◌ {A = ℕ} 0 1 = cc in omega arith)
 
 -- f is the form that the words ws name, and vs are the words behind its name
 pub record Begun (ws : List (List ℕ)) (f : Form) (vs : List (Bor (List ℕ))) : Type 0 where
@@ -66,8 +51,25 @@ module _ {ws : List (List ℕ)} {f : Form} {vs : List (Bor (List ℕ))} (begun :
   at_form : call_of ws ≡ with_words f (texts vs)
   at_form = ap (λ (o : Result Form Expected). with_form o ws) (sym begun.form) ∙ ap (with_words f) (sym begun.rest)
 
-  pub other_count : false ≡ takes f (length vs) → call_of ws ≡ Err (expected.Words f)
-  other_count e = at_form ∙ cond-false _ _ _ (ap (takes f) (same_length vs) ∙ sym e)
+  same_length : length (texts vs) ≡ length vs
+  same_length = length-map vs (λ w. w.now)
 
-  pub right_count : true ≡ takes f (length vs) → command_of f (texts vs) ≡ call_of ws
-  right_count e = sym (at_form ∙ cond-true _ _ _ (ap (takes f) (same_length vs) ∙ sym e))
+  pub other_count : false ≡ takes f (length vs) → call_of ws ≡ Err (expected.Words f)
+  other_count e = at_form ∙ cond-false _ _ _ (ap (takes f) same_length ∙ sym e)
+
+  module _ (counted : true ≡ takes f (length vs)) where
+    right_count : call_of ws ≡ with_numbers f (numbers_of (texts vs))
+    right_count = at_form ∙ cond-true _ _ _ (ap (takes f) same_length ∙ sym counted)
+
+    pub no_numbers : {X Y : Type 0} (g : X → List ℕ) (h : Y → Meaning) (e : LineError) → Gives g (ok_or (numbers_of (texts vs)) (expected.Number f)) (Err e) → Gives h (call_of ws) (Err e)
+    no_numbers g h (Fault x) e = right_count ∙ unread_numbers f _ x e
+    no_numbers g h Memory e = tt
+
+    module _ {ns : List ℕ} (numbers : ok_or (numbers_of (texts vs)) (expected.Number f) ≡ Ok ns) where
+      pub enough : count_of f ≤ length ns
+      enough =
+          let k = MatchOption-at_some (Unit {0}) (λ (ms : List ℕ). length ms ≡ length (texts vs)) ns (read_numbers f _ ns numbers) (numbers_length (texts vs)) in
+          omega (arith, count_within f (length vs) (sym counted), k ∙ same_length)
+
+      pub call_read : call_of ws ≡ Ok (meaning f ns)
+      call_read = right_count ∙ ap (with_numbers f) (read_numbers f _ ns numbers)

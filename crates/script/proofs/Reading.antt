@@ -1,7 +1,7 @@
 -- A script read line by line. Assumes nothing.
-use Rattle.std.proofs.Common.{◌≡◌, ℕ, ◌+◌, Bool, true, false, not, ◌||◌, eqb, ◌⊎◌, List, [], ◌∷◌, ◌++◌, length, Some, None, Ok, Err, Option, Result, sym, refl, ap, ◌∙◌, ⊎_elim, append_assoc, append-nil, arith}
+use Rattle.std.proofs.Common.{◌≡◌, ℕ, ◌+◌, Bool, true, ◌||◌, eqb, List, [], ◌∷◌, ◌++◌, length, Some, None, Ok, Err, Option, Result, sym, refl, ap, ◌∙◌, append_assoc, append-nil, arith}
 use Rattle.std.proofs.lemmas.List.{nil_from_length}
-use Rattle.std.proofs.lemmas.Bool.{cond-false, and_left, and_right, not_from_true, eqb-true}
+use Rattle.std.proofs.lemmas.Bool.{eqb-true}
 use Rattle.std.specs.Option.{option_map}
 use Rattle.script.specs.declared.command.Command.{Command}
 use Rattle.script.specs.declared.cuts.Mark.TheVariants.{LineEnd}
@@ -9,7 +9,7 @@ use Rattle.script.specs.declared.fault.Expected.{Expected}
 use Rattle.script.specs.declared.fault.LineError.{LineError}
 use Rattle.script.specs.declared.fault.LineError.TheVariants.{Fault, Memory}
 use Rattle.script.specs.Calls.{call_of}
-use Rattle.script.specs.Commands.{Meaning, meant, needs_sheet, opens_sheet}
+use Rattle.script.specs.Commands.{Meaning, meant, opens_sheet}
 use Rattle.script.specs.Cuts.{cuts, lines_of}
 use Rattle.script.specs.Faults.{Gives, at_line}
 use Rattle.script.specs.Script.{Script, permitted, line_from, line_of, first, onward, script_from, Reads}
@@ -27,13 +27,6 @@ some_words b (w ∷ ws) e = refl
 pub line_stopped : {X Y : Type 0} (f : X → Meaning) (g : Y → Option Meaning) (b : Bool) (ws : List (List ℕ)) → (length ws ≡ 0 → ⊥) → (e : LineError) → Gives f (call_of ws) (Err e) → Gives g (line_from b ws) (Err e)
 line_stopped f g b ws h (Fault x) e = some_words b ws h ∙ ap (permitted b) e
 line_stopped f g b ws h Memory e = tt
-
--- a line with words says its call, where that needs no sheet or one is open
-pub line_read : (b : Bool) (ws : List (List ℕ)) → (length ws ≡ 0 → ⊥) → {m : Meaning} → call_of ws ≡ Ok m → {t : Bool} → t ≡ needs_sheet m → ((t ≡ true) × (b ≡ true)) ⊎ (t ≡ false) → line_from b ws ≡ Ok (Some m)
-line_read b ws h {m} e is may =
-    some_words b ws h
-    ∙ ap (permitted b) e
-    ∙ cond-false _ _ _ (⊎_elim (λ k. and_right (needs_sheet m) (not b) (not_from_true b k.1)) (λ k. and_left (needs_sheet m) (not b) (sym is ∙ k)) may)
 
 -- a script with other calls in front
 abbrev pub prefixed : List Meaning → Script → Script

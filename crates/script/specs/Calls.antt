@@ -1,9 +1,8 @@
 -- The call that the words of a line are.
 --   form_of ws       the form that the first word names, or the first two, or what was expected in their place
---   command_of f ws  what a call of the form f says with the words ws behind its name, which are as many as it takes, or what
---                   was expected in their place: numbers, and hexadecimal digits behind a load
+--   meaning f ns    what a call of the form f says with the numbers ns
 --   call_of ws       the call that the words are, or what was expected: asked in this order are the first word, the second
---                   where the name has two, the number of words, and whether all others are what the form takes
+--                   where the name has two, the number of words, and whether all others are numbers
 -- Assumes nothing.
 use Rattle.std.specs.Prelude.{ℕ, ◌+◌, cond, List, [], length, drop, Some, None, Ok, Err, Option, Result, slice_index, slice_index_or}
 use Rattle.script.specs.declared.command.Shape.{Shape}
@@ -14,30 +13,29 @@ use Rattle.script.specs.declared.command.Weights.{Weights}
 use Rattle.script.specs.declared.fault.Expected.{Expected}
 use Rattle.script.specs.declared.fault.Expected.TheVariants as expected
 use Rattle.script.specs.declared.forms.Form.{Form}
-use Rattle.script.specs.declared.forms.Form.TheVariants.{Lattice, Clash, Open, Sheet, Load}
+use Rattle.script.specs.declared.forms.Form.TheVariants.{Lattice, Clash, Open, Sheet}
 use Rattle.script.specs.declared.forms.LatticeKind.{LatticeKind}
 use Rattle.script.specs.declared.forms.LatticeKind.TheVariants.{Binomial, Trinomial, Worst}
 use Rattle.script.specs.declared.forms.SheetForm.{SheetForm}
-use Rattle.script.specs.declared.forms.SheetForm.TheVariants.{Coupon, Call, Put, Cancel, Redeem, Spread, Save, Back, Read, Cost, Fit, Strike, Table}
+use Rattle.script.specs.declared.forms.SheetForm.TheVariants.{Coupon, Call, Put, Cancel, Redeem, Spread, Back, Read, Cost, Fit, Strike, Table}
 use Rattle.script.specs.declared.names.Opening.{Opening}
 use Rattle.script.specs.declared.names.Opening.TheVariants as opening
-use Rattle.script.specs.Commands.{Meaning, lattice, clash, opened, sheet, load}
+use Rattle.script.specs.Commands.{Meaning, lattice, clash, opened, sheet}
 use Rattle.script.specs.Forms.{name_length, lattice_count, takes}
-use Rattle.script.specs.Hex.{bytes_of}
 use Rattle.script.specs.Names.{named, opening_names, lattice_names, clash_names, right_names}
 use Rattle.script.specs.Numbers.{numbers_of}
 
--- what f makes of what was read, or what was expected in its place
-abbrev pub read : {X Y : Type 0} → (X → Y) → Expected → Option X → Result Y Expected
-read f e None = Err e
-read f e (Some x) = Ok (f x)
+-- the form that a second word completes, where it names x
+abbrev pub completed : {X : Type 0} → (X → Form) → Expected → Option X → Result Form Expected
+completed f e None = Err e
+completed f e (Some x) = Ok (f x)
 
 abbrev pub form_from : Option Opening → List ℕ → Result Form Expected
 form_from None w = Err expected.Call
 form_from (Some (opening.Whole f)) w = Ok f
-form_from (Some opening.Lattice) w = read Lattice expected.LatticeKind (named lattice_names w)
-form_from (Some opening.Clash) w = read Clash expected.ClashRule (named clash_names w)
-form_from (Some opening.Cancel) w = read (λ r. Sheet (Cancel r)) expected.Right (named right_names w)
+form_from (Some opening.Lattice) w = completed Lattice expected.LatticeKind (named lattice_names w)
+form_from (Some opening.Clash) w = completed Clash expected.ClashRule (named clash_names w)
+form_from (Some opening.Cancel) w = completed (λ r. Sheet (Cancel r)) expected.Right (named right_names w)
 
 -- a word that is not there counts as empty, which is no name
 abbrev pub form_of : List (List ℕ) → Result Form Expected
@@ -58,7 +56,6 @@ sheet_call Put ns = call.Put (slice_index ns 0) (slice_index ns 1) (slice_index 
 sheet_call (Cancel r) ns = call.Cancel r (slice_index ns 0)
 sheet_call Redeem ns = call.Redeem (slice_index ns 0)
 sheet_call Spread ns = call.Spread (slice_index ns 0)
-sheet_call Save ns = call.Save
 sheet_call Back ns = call.Back (slice_index ns 0)
 sheet_call Read ns = call.Read (slice_index ns 0) (slice_index ns 1)
 sheet_call Cost ns = call.Cost
@@ -66,19 +63,20 @@ sheet_call Fit ns = call.Fit (slice_index ns 0)
 sheet_call Strike ns = call.Strike
 sheet_call Table ns = call.Table
 
-abbrev pub lattice_call : LatticeKind → List ℕ → Meaning
-lattice_call k ns = lattice (shape_of k ns) (slice_index ns 0) (drop (lattice_count k) ns)
+-- what a form says with its numbers
+abbrev pub meaning : Form → List ℕ → Meaning
+meaning (Lattice k) ns = lattice (shape_of k ns) (slice_index ns 0) (drop (lattice_count k) ns)
+meaning (Clash r) ns = clash r
+meaning Open ns = opened
+meaning (Sheet s) ns = sheet (sheet_call s ns)
 
-abbrev pub command_of : Form → List (List ℕ) → Result Meaning Expected
-command_of (Lattice k) ws = read (lattice_call k) (expected.Number (Lattice k)) (numbers_of ws)
-command_of (Clash r) ws = Ok (clash r)
-command_of Open ws = Ok opened
-command_of (Sheet s) ws = read (λ ns. sheet (sheet_call s ns)) (expected.Number (Sheet s)) (numbers_of ws)
-command_of Load ws = read load expected.Hex (bytes_of ws)
+abbrev pub with_numbers : Form → Option (List ℕ) → Result Meaning Expected
+with_numbers f None = Err (expected.Number f)
+with_numbers f (Some ns) = Ok (meaning f ns)
 
--- the call of the form f, behind whose name the words ws stand
+-- the call of the form f, whose numbers are the words ws
 abbrev pub with_words : Form → List (List ℕ) → Result Meaning Expected
-with_words f ws = cond (takes f (length ws)) (command_of f ws) (Err (expected.Words f))
+with_words f ws = cond (takes f (length ws)) (with_numbers f (numbers_of ws)) (Err (expected.Words f))
 
 abbrev pub with_form : Result Form Expected → List (List ℕ) → Result Meaning Expected
 with_form (Err e) ws = Err e

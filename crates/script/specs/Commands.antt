@@ -1,5 +1,5 @@
 -- What commands say.
---   Meaning         what a command says, with a lattice's rates and a load's bytes as lists
+--   Meaning         what a command says, with a lattice's rates as a list
 --   meant c         what the command c says
 --   needs_sheet m   whether m is a call of the open sheet
 --   opens_sheet m   whether m opens a sheet
@@ -7,7 +7,7 @@
 use Rattle.std.specs.Prelude.{ℕ, Bool, true, false, List, vec_items}
 use Rattle.script.specs.declared.command.ClashRule.{ClashRule}
 use Rattle.script.specs.declared.command.Command.{Command}
-use Rattle.script.specs.declared.command.Command.TheVariants.{Lattice, Clash, Open, Sheet, Load}
+use Rattle.script.specs.declared.command.Command.TheVariants.{Lattice, Clash, Open, Sheet}
 use Rattle.script.specs.declared.command.Shape.{Shape}
 use Rattle.script.specs.declared.command.SheetCall.{SheetCall}
 
@@ -16,25 +16,21 @@ pub data Meaning : Type 0 where
   clash : ClashRule → Meaning
   opened : Meaning
   sheet : SheetCall → Meaning
-  load : List ℕ → Meaning
 
 abbrev pub meant : Command → Meaning
 meant (Lattice s n rates) = lattice s n (vec_items rates)
 meant (Clash r) = clash r
 meant Open = opened
 meant (Sheet s) = sheet s
-meant (Load bytes) = load (vec_items bytes)
 
 abbrev pub needs_sheet : Meaning → Bool
 needs_sheet (lattice s n rs) = false
 needs_sheet (clash r) = false
 needs_sheet opened = false
 needs_sheet (sheet s) = true
-needs_sheet (load bs) = true
 
 abbrev pub opens_sheet : Meaning → Bool
 opens_sheet (lattice s n rs) = false
 opens_sheet (clash r) = false
 opens_sheet opened = true
 opens_sheet (sheet s) = false
-opens_sheet (load bs) = false

@@ -1,16 +1,15 @@
 -- The forms of calls.
 --   name_length f   how many words the name of the form f is
 --   count_of f       how many numbers follow the name, not counting a lattice's rates
---   takes f n       whether n words may follow the name: as many as the form counts, any more after a lattice, and any number
---                   at all after a load
+--   takes f n       whether n numbers may follow the name: as many as the form counts, and any more after a lattice
 -- Assumes nothing.
-use Rattle.std.specs.Prelude.{ℕ, Bool, true, ◌==◌, nat_le}
+use Rattle.std.specs.Prelude.{ℕ, Bool, ◌==◌, nat_le}
 use Rattle.script.specs.declared.forms.Form.{Form}
-use Rattle.script.specs.declared.forms.Form.TheVariants.{Lattice, Clash, Open, Sheet, Load}
+use Rattle.script.specs.declared.forms.Form.TheVariants.{Lattice, Clash, Open, Sheet}
 use Rattle.script.specs.declared.forms.LatticeKind.{LatticeKind}
 use Rattle.script.specs.declared.forms.LatticeKind.TheVariants.{Binomial, Trinomial, Worst}
 use Rattle.script.specs.declared.forms.SheetForm.{SheetForm}
-use Rattle.script.specs.declared.forms.SheetForm.TheVariants.{Coupon, Call, Put, Cancel, Redeem, Spread, Save, Back, Read, Cost, Fit, Strike, Table}
+use Rattle.script.specs.declared.forms.SheetForm.TheVariants.{Coupon, Call, Put, Cancel, Redeem, Spread, Back, Read, Cost, Fit, Strike, Table}
 
 abbrev pub sheet_name_length : SheetForm → ℕ
 sheet_name_length (Cancel r) = 2
@@ -19,7 +18,6 @@ sheet_name_length Call = 1
 sheet_name_length Put = 1
 sheet_name_length Redeem = 1
 sheet_name_length Spread = 1
-sheet_name_length Save = 1
 sheet_name_length Back = 1
 sheet_name_length Read = 1
 sheet_name_length Cost = 1
@@ -32,7 +30,6 @@ name_length (Lattice k) = 2
 name_length (Clash r) = 2
 name_length Open = 1
 name_length (Sheet s) = sheet_name_length s
-name_length Load = 1
 
 abbrev pub lattice_count : LatticeKind → ℕ
 lattice_count Binomial = 1
@@ -46,7 +43,6 @@ sheet_count Put = 3
 sheet_count (Cancel r) = 1
 sheet_count Redeem = 1
 sheet_count Spread = 1
-sheet_count Save = 0
 sheet_count Back = 1
 sheet_count Read = 2
 sheet_count Cost = 0
@@ -59,11 +55,9 @@ count_of (Lattice k) = lattice_count k
 count_of (Clash r) = 0
 count_of Open = 0
 count_of (Sheet s) = sheet_count s
-count_of Load = 0
 
 abbrev pub takes : Form → ℕ → Bool
 takes (Lattice k) n = nat_le (lattice_count k) n
 takes (Clash r) n = n == 0
 takes Open n = n == 0
 takes (Sheet s) n = n == sheet_count s
-takes Load n = true

@@ -3,7 +3,6 @@ pub mod Commands
 pub mod Cuts
 pub mod Faults
 pub mod Forms
-pub mod Hex
 pub mod Names
 pub mod Numbers
 pub mod Script

@@ -50,8 +50,6 @@ opening_names =
     ∷ (codes "put", opening.Whole (form.Sheet sheet.Put))
     ∷ (codes "redeem", opening.Whole (form.Sheet sheet.Redeem))
     ∷ (codes "spread", opening.Whole (form.Sheet sheet.Spread))
-    ∷ (codes "load", opening.Whole form.Load)
-    ∷ (codes "save", opening.Whole (form.Sheet sheet.Save))
     ∷ (codes "back", opening.Whole (form.Sheet sheet.Back))
     ∷ (codes "read", opening.Whole (form.Sheet sheet.Read))
     ∷ (codes "cost", opening.Whole (form.Sheet sheet.Cost))

@@ -2,15 +2,11 @@
 --   number_of w      the number that the word w is: one decimal digit or more and nothing else, and below 2 ^ 32; none where
 --                   it is no such number
 --   numbers_of ws   the numbers that the words ws are; none where one of them is no number
---   within a z b    whether b is at least a and at most z
 -- Assumes nothing.
 use Rattle.std.specs.Prelude.{ℕ, ◌+◌, ◌-◌, ◌*◌, ◌^◌, Bool, cond, ◌&&◌, List, [], ◌∷◌, Some, None, Option, nat_le, nat_lt}
 
-abbrev pub within : ℕ → ℕ → ℕ → Bool
-within a z b = nat_le a b && nat_le b z
-
 abbrev pub is_digit : ℕ → Bool
-is_digit b = within 48 57 b
+is_digit b = nat_le 48 b && nat_le b 57
 
 -- the value of digits that follow those of v
 abbrev pub value_from : ℕ → List ℕ → Option ℕ

@@ -1,18 +1,17 @@
 // The command that a line's words are.
-ghost use Rattle.std.specs.Prelude.{◌≡◌, ◌+◌, ◌≤◌, true, [], length, drop, IfOk, slice_index_or};
+ghost use Rattle.std.specs.Prelude.{◌≡◌, ◌+◌, ◌≤◌, [], length, drop, IfOk, slice_index_or};
 ghost use Rattle.std.specs.Option.{ok_or};
 ghost use Rattle.script.specs.declared.fault.Expected.TheVariants as expected;
-ghost use Rattle.script.specs.Calls.{call_of, command_of, form_of, lattice_call, shape_of, sheet_call, weights_at};
+ghost use Rattle.script.specs.Calls.{call_of, form_of, meaning, shape_of, sheet_call, weights_at};
 ghost use Rattle.script.specs.Commands.{meant};
 ghost use Rattle.script.specs.Cuts.{texts};
 ghost use Rattle.script.specs.Faults.{Gives};
-ghost use Rattle.script.specs.Forms.{lattice_count, sheet_count, takes};
+ghost use Rattle.script.specs.Forms.{lattice_count, sheet_count, count_of};
 ghost use Rattle.script.specs.Numbers.{numbers_of};
 
 use crate::command::{Command, Shape, SheetCall, Weights};
 use crate::fault::{Expected, LineError};
 use crate::forms::{Form, LatticeKind, SheetForm};
-use crate::hex::bytes_of;
 use crate::names;
 use crate::names::Opening;
 use crate::numbers::number;
@@ -77,18 +76,6 @@ fn shape_of(kind: LatticeKind, numbers: &[u32]) -> Shape
     }
 }
 
-fn lattice_call(heap: Global, kind: LatticeKind, numbers: &[u32]) -> Result<Command, AllocError>
-    requires { lattice_count kind ≤ length numbers.now }
-    ensures { IfOk result (λ c. meant c ≡ lattice_call kind numbers.now) }
-{
-    let rates = Vec::from_slice(heap, &numbers[kind.count()..])?;
-    Ok(Command::Lattice {
-        shape: shape_of(kind, numbers),
-        steps: numbers[0],
-        rates,
-    })
-}
-
 fn sheet_call(form: SheetForm, numbers: &[u32]) -> SheetCall
     requires { sheet_count form ≤ length numbers.now }
     ensures { result ≡ sheet_call form numbers.now }
@@ -114,7 +101,6 @@ fn sheet_call(form: SheetForm, numbers: &[u32]) -> SheetCall
         },
         SheetForm::Redeem => SheetCall::Redeem { amount: numbers[0] },
         SheetForm::Spread => SheetCall::Spread { spread: numbers[0] },
-        SheetForm::Save => SheetCall::Save,
         SheetForm::Back => SheetCall::Back { steps: numbers[0] },
         SheetForm::Read => SheetCall::Read {
             step: numbers[0],
@@ -124,6 +110,26 @@ fn sheet_call(form: SheetForm, numbers: &[u32]) -> SheetCall
         SheetForm::Fit => SheetCall::Fit { price: numbers[0] },
         SheetForm::Strike => SheetCall::Strike,
         SheetForm::Table => SheetCall::Table,
+    }
+}
+
+// The command of a form with its numbers.
+fn command_of(heap: Global, form: Form, numbers: &[u32]) -> Result<Command, AllocError>
+    requires { count_of form ≤ length numbers.now }
+    ensures { IfOk result (λ c. meant c ≡ meaning form numbers.now) }
+{
+    match form {
+        Form::Lattice(kind) => {
+            let rates = Vec::from_slice(heap, &numbers[form.count()..])?;
+            Ok(Command::Lattice {
+                shape: shape_of(kind, numbers),
+                steps: numbers[0],
+                rates,
+            })
+        }
+        Form::Clash(rule) => Ok(Command::Clash(rule)),
+        Form::Open => Ok(Command::Open),
+        Form::Sheet(form) => Ok(Command::Sheet(sheet_call(form, numbers))),
     }
 }
 
@@ -141,26 +147,6 @@ fn numbers_of(heap: Global, form: Form, words: &[&[u8]]) -> Result<Vec<u32>, Lin
     Ok(found)
 }
 
-// The command of a form with the words behind its name, which are as many as it takes.
-fn command_of(heap: Global, form: Form, words: &[&[u8]]) -> Result<Command, LineError>
-    requires { takes form (length words.now) ≡ true }
-    ensures { Gives meant (command_of form (texts words.now)) result }
-{
-    match form {
-        Form::Lattice(kind) => {
-            let numbers = numbers_of(heap, form, words)?;
-            Ok(lattice_call(heap, kind, &numbers)?)
-        }
-        Form::Clash(rule) => Ok(Command::Clash(rule)),
-        Form::Open => Ok(Command::Open),
-        Form::Sheet(call) => {
-            let numbers = numbers_of(heap, form, words)?;
-            Ok(Command::Sheet(sheet_call(call, &numbers)))
-        }
-        Form::Load => Ok(Command::Load(bytes_of(heap, words)?)),
-    }
-}
-
 // The command that the words are.
 pub fn command_from(heap: Global, words: &[&[u8]]) -> Result<Command, LineError>
     ensures { Gives meant (call_of (texts words.now)) result }
@@ -170,5 +156,6 @@ pub fn command_from(heap: Global, words: &[&[u8]]) -> Result<Command, LineError>
     if !form.takes(rest.len()) {
         return Err(LineError::Fault(Expected::Words(form)));
     }
-    command_of(heap, form, rest)
+    let numbers = numbers_of(heap, form, rest)?;
+    Ok(command_of(heap, form, &numbers)?)
 }

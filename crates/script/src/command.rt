@@ -41,7 +41,6 @@ pub enum SheetCall {
     Cancel { right: Right, step: u32 },
     Redeem { amount: u32 },
     Spread { spread: u32 },
-    Save,
     Back { steps: u32 },
     Read { step: u32, node: u32 },
     Cost,
@@ -60,15 +59,13 @@ pub enum Command {
     Clash(ClashRule),
     Open,
     Sheet(SheetCall),
-    // a call of the open sheet too, apart since its record is not `Copy`
-    Load(Vec<u8>),
 }
 
 impl Command {
     pub(crate) fn needs_sheet(&self) -> bool
         ensures { result ≡ needs_sheet (meant self.now) }
     {
-        matches!(self, Command::Sheet(_) | Command::Load(_))
+        matches!(self, Command::Sheet(_))
     }
 
     pub(crate) fn opens_sheet(&self) -> bool

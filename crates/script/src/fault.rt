@@ -19,8 +19,6 @@ pub enum Expected {
     // as many words as the form has
     Words(Form),
     Number(Form),
-    // pairs of digits, for a `load`
-    Hex,
     // an `open` on an earlier line
     OpenSheet,
 }

@@ -1,7 +1,7 @@
 // The forms that a line may have: which call it is, and how many words that takes.
 // A further call is a case here and of what it says in `command`, a name in `names`, and an arm in `calls` and `messages`.
 ghost use Rattle.std.specs.Prelude.{◌≡◌};
-ghost use Rattle.script.specs.Forms.{name_length, lattice_count, sheet_count, count_of, takes};
+ghost use Rattle.script.specs.Forms.{name_length, sheet_count, count_of, takes};
 
 use crate::command::{ClashRule, Right};
 
@@ -21,7 +21,6 @@ pub enum SheetForm {
     Cancel(Right),
     Redeem,
     Spread,
-    Save,
     Back,
     Read,
     Cost,
@@ -36,7 +35,6 @@ pub enum Form {
     Clash(ClashRule),
     Open,
     Sheet(SheetForm),
-    Load,
 }
 
 impl Form {
@@ -55,31 +53,21 @@ impl Form {
         ensures { result ≡ count_of self }
     {
         match self {
-            Form::Lattice(kind) => kind.count(),
-            Form::Clash(_) | Form::Open | Form::Load => 0,
+            Form::Lattice(LatticeKind::Binomial) => 1,
+            Form::Lattice(LatticeKind::Trinomial) => 4,
+            Form::Lattice(LatticeKind::Worst) => 7,
+            Form::Clash(_) | Form::Open => 0,
             Form::Sheet(form) => form.count(),
         }
     }
 
-    // Whether so many words may follow the name.
-    pub(crate) fn takes(self, words: usize) -> bool
-        ensures { result ≡ takes self words }
+    // Whether so many numbers may follow the name.
+    pub(crate) fn takes(self, numbers: usize) -> bool
+        ensures { result ≡ takes self numbers }
     {
         match self {
-            Form::Lattice(_) | Form::Load => self.count() <= words,
-            _ => words == self.count(),
-        }
-    }
-}
-
-impl LatticeKind {
-    pub(crate) fn count(self) -> usize
-        ensures { result ≡ lattice_count self }
-    {
-        match self {
-            LatticeKind::Binomial => 1,
-            LatticeKind::Trinomial => 4,
-            LatticeKind::Worst => 7,
+            Form::Lattice(_) => self.count() <= numbers,
+            _ => numbers == self.count(),
         }
     }
 }
@@ -96,7 +84,7 @@ impl SheetForm {
             | SheetForm::Spread
             | SheetForm::Back
             | SheetForm::Fit => 1,
-            SheetForm::Save | SheetForm::Cost | SheetForm::Strike | SheetForm::Table => 0,
+            SheetForm::Cost | SheetForm::Strike | SheetForm::Table => 0,
         }
     }
 }

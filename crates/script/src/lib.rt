@@ -4,7 +4,6 @@ pub mod command;
 mod cuts;
 pub mod fault;
 pub mod forms;
-mod hex;
 pub mod messages;
 mod names;
 mod numbers;

@@ -22,8 +22,6 @@ impl fmt::Display for Form {
             Form::Sheet(SheetForm::Cancel(Right::Put)) => "cancel put STEP",
             Form::Sheet(SheetForm::Redeem) => "redeem AMOUNT",
             Form::Sheet(SheetForm::Spread) => "spread SPREAD",
-            Form::Load => "load HEX..",
-            Form::Sheet(SheetForm::Save) => "save",
             Form::Sheet(SheetForm::Back) => "back STEPS",
             Form::Sheet(SheetForm::Read) => "read STEP NODE",
             Form::Sheet(SheetForm::Cost) => "cost",
@@ -38,7 +36,7 @@ impl fmt::Display for Expected {
     fn fmt<W: fmt::Write>(&self, f: &mut fmt::Formatter<W>) -> fmt::Result {
         match self {
             Expected::Call => f.write_str(
-                "expected lattice, clash, open, coupon, call, put, cancel, redeem, spread, load, save, back, read, cost, fit, strike or table as the first word",
+                "expected lattice, clash, open, coupon, call, put, cancel, redeem, spread, back, read, cost, fit, strike or table as the first word",
             ),
             Expected::LatticeKind => f.write_str(
                 "expected binomial, trinomial or worst, as in: lattice binomial STEPS RATE..",
@@ -50,9 +48,6 @@ impl fmt::Display for Expected {
                 f,
                 "expected a number of at most 4294967295, as in: {form}"
             ),
-            Expected::Hex => {
-                f.write_str("expected pairs of hexadecimal digits, as in: load HEX..")
-            }
             Expected::OpenSheet => f.write_str("expected a line above that opens a sheet: open"),
         }
     }

@@ -39,8 +39,6 @@ pub fn first_word(word: &[u8]) -> Option<Opening>
         ("put", Opening::Whole(Form::Sheet(SheetForm::Put))),
         ("redeem", Opening::Whole(Form::Sheet(SheetForm::Redeem))),
         ("spread", Opening::Whole(Form::Sheet(SheetForm::Spread))),
-        ("load", Opening::Whole(Form::Load)),
-        ("save", Opening::Whole(Form::Sheet(SheetForm::Save))),
         ("back", Opening::Whole(Form::Sheet(SheetForm::Back))),
         ("read", Opening::Whole(Form::Sheet(SheetForm::Read))),
         ("cost", Opening::Whole(Form::Sheet(SheetForm::Cost))),

@@ -71,21 +71,6 @@ fn reads_rates(rt: HostRuntime) -> Result<(), Fail> {
 }
 
 #[test]
-fn reads_records(rt: HostRuntime) -> Result<(), Fail> {
-    let commands = read_script(rt.alloc(), b"open\nload 00fF 7a # a record\nload\nsave")?;
-    assert!(rt; commands.len() == 4);
-    assert!(rt; matches!(&commands[3], Command::Sheet(SheetCall::Save)));
-    match (&commands[1], &commands[2]) {
-        (Command::Load(bytes), Command::Load(none)) => {
-            assert!(rt; bytes.as_slice() == &[0x00, 0xff, 0x7a]);
-            assert!(rt; none.is_empty());
-            Ok(())
-        }
-        _ => Err(Fail::new("no loads")),
-    }
-}
-
-#[test]
 fn names_the_first_fault(rt: HostRuntime) -> Result<(), Fail> {
     assert_eq!(rt;
         fault_of(&rt, b"\nopen now\nshut")?,
@@ -116,13 +101,6 @@ fn names_the_first_fault(rt: HostRuntime) -> Result<(), Fail> {
         }
     );
     assert_eq!(rt;
-        fault_of(&rt, b"open\nsave\nsave 1")?,
-        ScriptFault {
-            line: 3,
-            expected: Expected::Words(Form::Sheet(SheetForm::Save)),
-        }
-    );
-    assert_eq!(rt;
         fault_of(&rt, b"coupon 1 4294967296")?,
         ScriptFault {
             line: 1,
@@ -133,32 +111,6 @@ fn names_the_first_fault(rt: HostRuntime) -> Result<(), Fail> {
         fault_of(&rt, b"clash put\ntable")?,
         ScriptFault {
             line: 2,
-            expected: Expected::OpenSheet,
-        }
-    );
-    Ok(())
-}
-
-#[test]
-fn names_the_fault_of_a_load(rt: HostRuntime) -> Result<(), Fail> {
-    assert_eq!(rt;
-        fault_of(&rt, b"open\nload 00 0ff")?,
-        ScriptFault {
-            line: 2,
-            expected: Expected::Hex,
-        }
-    );
-    assert_eq!(rt;
-        fault_of(&rt, b"open\nload 0g")?,
-        ScriptFault {
-            line: 2,
-            expected: Expected::Hex,
-        }
-    );
-    assert_eq!(rt;
-        fault_of(&rt, b"load 00\nopen")?,
-        ScriptFault {
-            line: 1,
             expected: Expected::OpenSheet,
         }
     );

@@ -13,7 +13,6 @@ use Rattle.sheet.specs.Edits.{amount_fault, else_fault}
 use Rattle.sheet.specs.Fits.{greatest, fit_fault, fitted, Greatest}
 use Rattle.sheet.specs.Shared.{Standing}
 use Rattle.sheet.specs.Promises.{Fitted}
-use Rattle.sheet.proofs.Admitting.{spread_admitted}
 
 module _ (m : Model) (σ : ℕ → ℕ → ℕ) (b : Terms) (want : ℕ) where
   -- counted down from n
@@ -43,5 +42,5 @@ module _ (m : Model) (σ : ℕ → ℕ → ℕ) (want : ℕ) (s : State) where
         is_greatest = λ _. subst (Greatest m σ s.terms want) e g;
         keeps = λ values marks st.
             let early = st.early in
-            record { admitted = spread_admitted m.steps s.terms s.spread spread g.allowed st.admitted; early = omega arith; worked = respread_keeps m σ s.spread spread s.first w s.terms values marks (omega arith) (omega arith) st.worked };
+            record { early = omega arith; worked = respread_keeps m σ s.spread spread s.first w s.terms values marks (omega arith) (omega arith) st.worked };
       }

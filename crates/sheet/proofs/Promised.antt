@@ -1,24 +1,22 @@
 -- What is done where the tests pass, and what is left alone where they do not, is what the calls promise. Assumes nothing.
-use Rattle.std.proofs.Common.{◌≡◌, ℕ, ◌+◌, ◌-◌, ◌<◌, ◌≤◌, min, ◌&&◌, eqb, leb, ◌≢◌, List, length, Some, None, Ok, Err, Option, Result, sym, refl, ap, ◌∙◌, subst, arith}
-use Rattle.std.proofs.lemmas.Bool.{and_parts, leb-true, cond-true, cond-false, eq-eqb, ne_eqb}
+use Rattle.std.proofs.Common.{◌≡◌, ℕ, ◌+◌, ◌-◌, ◌<◌, ◌≤◌, min, ◌&&◌, leb, List, length, Some, None, Ok, Err, Option, Result, sym, refl, ap, ◌∙◌, subst, arith}
+use Rattle.std.proofs.lemmas.Bool.{and_parts, leb-true}
 use Rattle.rates.specs.Model.{Model, Lawful}
 use Rattle.rates.specs.Refusals.{accepted, told}
 use Rattle.game.specs.Clash.{Fair}
 use Rattle.game.specs.Stored.{offset, all_nodes, Worked}
 use Rattle.game.specs.Working.{back_figure, back_values, back_marks, too_large}
-use Rattle.game.proofs.Alike.{none_worked}
 use Rattle.game.proofs.Rows.{offset_top, offset_small}
 use Rattle.game.proofs.Backward.{back_keeps, back_small, none_too_large}
 use Rattle.sheet.specs.declared.state.State.{State}
 use Rattle.sheet.specs.declared.edit.Edit.{Edit}
 use Rattle.sheet.specs.declared.fault.SheetFault.{SheetFault}
-use Rattle.sheet.specs.declared.fault.SheetFault.TheVariants.{Step, Rows}
+use Rattle.sheet.specs.declared.fault.SheetFault.TheVariants.{Rows}
 use Rattle.sheet.specs.Faults.{sheet_refusal, tested, answer, unless}
 use Rattle.sheet.specs.Edits.{edited, edit_fault, else_fault}
-use Rattle.sheet.specs.Admits.{Admitted}
-use Rattle.sheet.specs.Calls.{adopt_fault, rows_fault, large_fault, steps_back, back_fault, worked_back, values_after, marks_after}
+use Rattle.sheet.specs.Calls.{rows_fault, large_fault, steps_back, back_fault, worked_back, values_after, marks_after}
 use Rattle.sheet.specs.Shared.{Standing}
-use Rattle.sheet.specs.Promises.{Edited, Adopted, WorkedBack}
+use Rattle.sheet.specs.Promises.{Edited, WorkedBack}
 use Rattle.sheet.proofs.Validity.{Valid, passed}
 use Rattle.sheet.proofs.Standing.{edit_stands, best_stored}
 
@@ -38,26 +36,6 @@ edit_made m σ e s s' n w last none is first =
       answers = ap accepted (first ∙ ap (λ (x : State). x.first) is') ∙ ap (λ o. answer o (edited m.steps s e).first) (sym none');
       leaves = is' ∙ ap (λ o. unless o (edited m.steps s e) s) (sym none');
       keeps = λ values marks st. subst (λ x. Standing m σ x values marks) (sym is') (edit_stands m σ s values marks e none' st);
-    }
-
--- a draft of as many steps is put in force, and none of it is worked
-pub draft_adopted : (m : Model) (σ : ℕ → ℕ → ℕ) (n w : ℕ) (s before : State) → n ≡ m.steps → w ≡ s.first → s.first ≡ n + 1 → Admitted n s.terms s.spread → Adopted m σ n s before (Ok w) s
-draft_adopted m σ n w s before same first unworked a =
-    let none : adopt_fault m n ≡ None = cond-true (eqb n m.steps) None (Some (Step n)) (eq-eqb n m.steps same) in
-    record {
-      answers = ap accepted first ∙ ap (λ o. answer o s.first) (sym none);
-      leaves = ap (λ o. unless o s before) (sym none);
-      keeps = λ values marks _. record { admitted = subst (λ k. Admitted k s.terms s.spread) same a; early = omega arith; worked = none_worked m σ s.terms s.spread s.first values marks (omega arith) };
-    }
-
--- one for another number of steps is not
-pub draft_refused : (m : Model) (σ : ℕ → ℕ → ℕ) (n : ℕ) (s before : State) → n ≢ m.steps → Adopted m σ n s before (Err (Step n)) before
-draft_refused m σ n s before other =
-    let why : adopt_fault m n ≡ Some (Step n) = cond-false (eqb n m.steps) None (Some (Step n)) (ne_eqb n m.steps other) in
-    record {
-      answers = ap (λ o. answer o s.first) (sym why);
-      leaves = ap (λ o. unless o s before) (sym why);
-      keeps = λ values marks st. st;
     }
 
 -- rows that pass are long enough
@@ -121,7 +99,6 @@ module _ (m : Model) (laws : Lawful m) (σ : ℕ → ℕ → ℕ) (fair : Fair �
         λ st.
         let early = st.early in
         record {
-          admitted = st.admitted;
           early = omega arith;
           worked = subst (λ x. Worked m σ s.terms s.spread (s.first - k) x marks') (sym ev) (subst (λ y. Worked m σ s.terms s.spread (s.first - k) (back_values m σ s.terms s.spread s.first k values) y) (sym em) (back_keeps m σ s.terms s.spread s.first values marks st.worked k (omega arith) (omega (arith, room.0)) (omega (arith, room.1))));
         } in

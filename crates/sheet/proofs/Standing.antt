@@ -14,9 +14,7 @@ use Rattle.sheet.specs.declared.state.State.{State}
 use Rattle.sheet.specs.declared.edit.Edit.{Edit}
 use Rattle.sheet.specs.declared.edit.Edit.TheVariants.{Coupon, Enter, Cancel, Redeem, Spread as Respread}
 use Rattle.sheet.specs.Edits.{opened, set_right, edited, edit_fault}
-use Rattle.sheet.specs.Admits.{Admitted}
 use Rattle.sheet.specs.Shared.{Standing, BestStored}
-use Rattle.sheet.proofs.Admitting.{edit_admits, opened_admitted}
 use Rattle.sheet.proofs.Validity.{coupon_passed, right_passed, cancel_passed}
 
 -- terms that differ in a right of step t are alike from the next step on
@@ -37,7 +35,7 @@ module _ (m : Model) (σ : ℕ → ℕ → ℕ) (s : State) (values marks : List
   edit_stands (Coupon t amount) none st =
       let within = (coupon_passed m.steps t amount none).within in
       let early = st.early in
-      record { admitted = edit_admits m.steps s (Coupon t amount) none st.admitted; early = omega arith; worked = edit_keeps m σ s.spread s.first (max s.first t) s.terms _ values marks (omega arith) alike st.worked }
+      record { early = omega arith; worked = edit_keeps m σ s.spread s.first (max s.first t) s.terms _ values marks (omega arith) alike st.worked }
     where
       alike : Alike (max s.first t) s.terms (edited m.steps s (Coupon t amount)).terms
       alike = record { redemption = refl; coupons = λ u l. let ne : u ≢ t = omega arith in sym (rw get_or-set_other); rights = rights }
@@ -48,19 +46,19 @@ module _ (m : Model) (σ : ℕ → ℕ → ℕ) (s : State) (values marks : List
   edit_stands (Enter kind t price notice) none st =
       let within = (right_passed m.steps t price notice none).within in
       let early = st.early in
-      record { admitted = edit_admits m.steps s (Enter kind t price notice) none st.admitted; early = omega arith; worked = edit_keeps m σ s.spread s.first (max s.first (t + 1)) s.terms _ values marks (omega arith) (right_alike kind s.terms t (max s.first (t + 1)) (Some (record { price = price; notice = notice })) (omega arith)) st.worked }
+      record { early = omega arith; worked = edit_keeps m σ s.spread s.first (max s.first (t + 1)) s.terms _ values marks (omega arith) (right_alike kind s.terms t (max s.first (t + 1)) (Some (record { price = price; notice = notice })) (omega arith)) st.worked }
   edit_stands (Cancel kind t) none st =
       let within = cancel_passed m.steps t s.terms kind none in
       let early = st.early in
-      record { admitted = edit_admits m.steps s (Cancel kind t) none st.admitted; early = omega arith; worked = edit_keeps m σ s.spread s.first (max s.first (t + 1)) s.terms _ values marks (omega arith) (right_alike kind s.terms t (max s.first (t + 1)) None (omega arith)) st.worked }
-  edit_stands (Redeem amount) none st = record { admitted = edit_admits m.steps s (Redeem amount) none st.admitted; early = omega arith; worked = none_worked m σ (edited m.steps s (Redeem amount)).terms s.spread (m.steps + 1) values marks (omega arith) }
+      record { early = omega arith; worked = edit_keeps m σ s.spread s.first (max s.first (t + 1)) s.terms _ values marks (omega arith) (right_alike kind s.terms t (max s.first (t + 1)) None (omega arith)) st.worked }
+  edit_stands (Redeem amount) none st = record { early = omega arith; worked = none_worked m σ (edited m.steps s (Redeem amount)).terms s.spread (m.steps + 1) values marks (omega arith) }
   edit_stands (Respread spread) none st =
       let early = st.early in
-      record { admitted = edit_admits m.steps s (Respread spread) none st.admitted; early = omega arith; worked = respread_keeps m σ s.spread spread s.first (max s.first m.steps) s.terms values marks (omega arith) (omega arith) st.worked }
+      record { early = omega arith; worked = respread_keeps m σ s.spread spread s.first (max s.first m.steps) s.terms values marks (omega arith) (omega arith) st.worked }
 
   -- the stored figures and marks of worked nodes are best play
   pub best_stored : Lawful m → Fair σ → Standing m σ s values marks → BestStored m σ s values marks
   best_stored laws fair st = best_play m laws σ fair s.terms s.spread s.first (stored m values) (stored m marks) st.worked.figures_are st.worked.marks_are
 
 pub opened_stands : (m : Model) (σ : ℕ → ℕ → ℕ) (n : ℕ) → n ≡ m.steps → (values marks : List ℕ) → Standing m σ (opened n) values marks
-opened_stands m σ n e values marks = record { admitted = subst (λ k. Admitted k (opened n).terms 0) e (opened_admitted n); early = omega arith; worked = none_worked m σ (opened n).terms 0 (n + 1) values marks (omega arith) }
+opened_stands m σ n e values marks = record { early = omega arith; worked = none_worked m σ (opened n).terms 0 (n + 1) values marks (omega arith) }

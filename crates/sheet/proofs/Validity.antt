@@ -28,7 +28,7 @@ module _ (b : Bool) (next : Option SheetFault) (f : SheetFault) where
   pub passed : cond b next (Some f) ≡ None → (b ≡ true) × (next ≡ None)
   passed e = ⊎_elim (λ (t : b ≡ true). (t, sym (cond-true b next (Some f) t) ∙ e)) (λ (h : b ≡ false). let q : Some f ≡ None = sym (cond-false b next (Some f) h) ∙ e in let z : ◌≡◌ {A = ℕ} 0 1 = cc in absurd (omega arith)) (cases_Bool b)
 
-pub amount_passed : (place amount : ℕ) → amount_fault place amount ≡ None → amount ≤ 10000000
+amount_passed : (place amount : ℕ) → amount_fault place amount ≡ None → amount ≤ 10000000
 amount_passed place amount e = leb-true amount 10000000 (passed (leb amount 10000000) None (Amount place) e).0
 
 pub record CouponFits (n t amount : ℕ) : Type 0 where
@@ -60,11 +60,11 @@ right_passed n t price notice e =
 pub cancel_passed : (n t : ℕ) (b : Terms) (kind : Kind) → cancel_fault n b kind t ≡ None → t < n
 cancel_passed n t b kind e = ltb-true t n (passed (ltb t n) (missing t (right b kind t)) (Step t) e).0
 
-pub spread_passed : (spread : ℕ) → spread_fault spread ≡ None → spread ≤ 200000
+spread_passed : (spread : ℕ) → spread_fault spread ≡ None → spread ≤ 200000
 spread_passed spread e = leb-true spread 200000 (passed (leb spread 200000) None Spread e).0
 
 -- what holds of each place still holds after a write of what may stand there
-pub kept_by_set : {X : Type 0} (P : ℕ → X → Type 0) (xs : List X) (i : ℕ) (y d : X) → P i y → ((t : ℕ) → P t (get_or xs t d)) → (t : ℕ) → P t (get_or (set xs i y) t d)
+kept_by_set : {X : Type 0} (P : ℕ → X → Type 0) (xs : List X) (i : ℕ) (y d : X) → P i y → ((t : ℕ) → P t (get_or xs t d)) → (t : ℕ) → P t (get_or (set xs i y) t d)
 kept_by_set P [] i y d p h t = h t
 kept_by_set P (x ∷ xs) zero y d p h zero = p
 kept_by_set P (x ∷ xs) zero y d p h (suc t) = h (suc t)

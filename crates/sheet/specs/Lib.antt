@@ -1,6 +1,5 @@
 pub mod Faults
 pub mod Edits
-pub mod Admits
 pub mod Calls
 pub mod Fits
 pub mod Prices

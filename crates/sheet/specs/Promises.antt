@@ -1,6 +1,5 @@
 -- What the calls of a sheet promise.
 --   Edited        an edit: its answer, the state that it leaves, and that worked entries stay worked
---   Adopted       a draft put in force: its answer, the state that it leaves, and that worked entries stay worked
 --   WorkedBack    the same of working back, with its rows
 --   RootFigure    the figure of node 0 of step 0, as a value of best play
 --   Costed        the costs at the root, which are never below 0
@@ -18,19 +17,13 @@ use Rattle.sheet.specs.declared.edit.Edit.{Edit}
 use Rattle.sheet.specs.declared.fault.SheetFault.{SheetFault}
 use Rattle.sheet.specs.Faults.{sheet_refusal, answer, unless}
 use Rattle.sheet.specs.Edits.{edited, edit_fault}
-use Rattle.sheet.specs.Calls.{adopt_fault, back_fault, worked_back, values_after, marks_after, costs}
+use Rattle.sheet.specs.Calls.{back_fault, worked_back, values_after, marks_after, costs}
 use Rattle.sheet.specs.Fits.{greatest, fit_fault, fitted, Greatest}
 use Rattle.sheet.specs.Shared.{Standing, BestStored}
 
 pub record Edited (m : Model) (σ : ℕ → ℕ → ℕ) (e : Edit) (before : State) (r : Result ℕ SheetFault) (after : State) : Type 0 where
   pub answers : told sheet_refusal r ≡ answer (edit_fault m.steps before e) (edited m.steps before e).first
   pub leaves : after ≡ unless (edit_fault m.steps before e) (edited m.steps before e) before
-  pub keeps : (values marks : List ℕ) → Standing m σ before values marks → Standing m σ after values marks
-
--- a draft of n steps, whose state is s
-pub record Adopted (m : Model) (σ : ℕ → ℕ → ℕ) (n : ℕ) (s before : State) (r : Result ℕ SheetFault) (after : State) : Type 0 where
-  pub answers : told sheet_refusal r ≡ answer (adopt_fault m n) s.first
-  pub leaves : after ≡ unless (adopt_fault m n) s before
   pub keeps : (values marks : List ℕ) → Standing m σ before values marks → Standing m σ after values marks
 
 -- working back: its answer, the state, the value row and the mark row that it leaves, and that worked entries stay worked

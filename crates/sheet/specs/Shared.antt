@@ -1,6 +1,6 @@
 -- A sheet and the rows that are handed on with it.
---   Standing     the terms and the spread are such as the edits accept, the first worked step is at most one past the
---                last, and the entries from it on are the figures and marks of the terms and spread in force
+--   Standing     the first worked step is at most one past the last, and the entries from it on are the figures and
+--                marks of the terms and spread in force
 --   BestStored   at every worked node the stored figure and the stored marks are best play
 -- Assumes nothing.
 use Rattle.std.specs.Prelude.{ℕ, ◌+◌, ◌<◌, ◌≤◌, List}
@@ -8,10 +8,8 @@ use Rattle.rates.specs.Model.{Model}
 use Rattle.game.specs.Plays.{BestPlay}
 use Rattle.game.specs.Stored.{stored, Worked}
 use Rattle.sheet.specs.declared.state.State.{State}
-use Rattle.sheet.specs.Admits.{Admitted}
 
 pub record Standing (m : Model) (σ : ℕ → ℕ → ℕ) (s : State) (values marks : List ℕ) : Type 0 where
-  pub admitted : Admitted m.steps s.terms s.spread
   pub early : s.first ≤ m.steps + 1
   pub worked : Worked m σ s.terms s.spread s.first values marks
 

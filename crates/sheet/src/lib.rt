@@ -1,8 +1,7 @@
 // A sheet of terms on a lattice: figures, marks, and what its calls refuse.
 pub mod answer;
 mod back;
-pub mod draft;
-pub mod edit;
+mod edit;
 pub mod fault;
 pub mod price;
 mod rows;
@@ -11,8 +10,6 @@ pub mod state;
 mod step;
 
 pub use answer::{Costs, Entry};
-pub use draft::Draft;
-pub use edit::Edit;
 pub use fault::SheetFault;
 pub use price::{Released, Struck};
 pub use sheet::Sheet;

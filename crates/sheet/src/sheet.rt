@@ -9,9 +9,9 @@ use crate::edit::Edit;
 use crate::fault::SheetFault;
 use crate::state::State;
 use game::clash::ClashRule;
+use game::terms::Terms;
 use lattice::Lattice;
 
-mod adopt;
 mod edits;
 mod fit;
 mod strike;
@@ -45,7 +45,17 @@ impl<L: Lattice, K: ClashRule> Sheet<L, K> {
         ensures stands { (values marks : List ℕ) → Standing (L.Lattice.model lattice) (K.ClashRule.settled clash) result.state values marks }
         ensures same { (result.lattice ≡ lattice) × (result.clash ≡ clash) }
     {
-        let state = State::opened(lattice.steps());
+        let terms = Terms {
+            redemption: 1_000_000,
+            coupons: [0; 65],
+            calls: [None; 64],
+            puts: [None; 64],
+        };
+        let state = State {
+            terms,
+            spread: 0,
+            first: lattice.steps() + 1,
+        };
         Sheet {
             lattice,
             clash,
@@ -60,15 +70,7 @@ impl<L: Lattice, K: ClashRule> Sheet<L, K> {
         self.state.first
     }
 
-    // Makes an edit; answers the first worked step after it.
-    pub fn edit(&mut self, edit: Edit) -> Result<usize, SheetFault>
-        ensures edited { Edited (L.Lattice.model self.old.lattice) (K.ClashRule.settled self.old.clash) edit self.old.state result self.new.state }
-        ensures same { (self.new.lattice ≡ self.old.lattice) × (self.new.clash ≡ self.old.clash) }
-    {
-        self.amend(edit)
-    }
-
-    fn amend(&mut self, edit: Edit) -> Result<usize, SheetFault>
+    fn edit(&mut self, edit: Edit) -> Result<usize, SheetFault>
         ensures edited { Edited (L.Lattice.model self.old.lattice) (K.ClashRule.settled self.old.clash) edit self.old.state result self.new.state }
         ensures same { (self.new.lattice ≡ self.old.lattice) × (self.new.clash ≡ self.old.clash) }
     {

@@ -1,5 +1,5 @@
 // Striking a price from the worked root.
-ghost use Rattle.std.specs.Prelude.{◌≡◌, ℕ, ◌<◌, List, length, None, slice_index};
+ghost use Rattle.std.specs.Prelude.{◌≡◌, ℕ, List, None};
 ghost use Rattle.rates.specs.Refusals.{told};
 ghost use Rattle.game.specs.Game.{root};
 ghost use Rattle.sheet.specs.Faults.{sheet_refusal, answer};
@@ -12,14 +12,6 @@ use crate::sheet::Sheet;
 use crate::sheet::work::all_nodes;
 use game::clash::ClashRule;
 use lattice::Lattice;
-
-// The entry of node 0 of step 0, which stands first in a row.
-fn root_entry(values: &[u32]) -> u32
-    requires { 0 < length values.now }
-    ensures { result ≡ slice_index values.now 0 }
-{
-    values[0]
-}
 
 impl<L: Lattice, K: ClashRule> Sheet<L, K> {
     // The stored root figure and the spread. With the rows handed on, it is the root figure of the terms in force.
@@ -40,6 +32,6 @@ impl<L: Lattice, K: ClashRule> Sheet<L, K> {
         if self.state.first > 0 {
             return Err(SheetFault::Unworked(0));
         }
-        Ok(Struck::new(root_entry(values), self.state.spread))
+        Ok(Struck::new(values[0], self.state.spread))
     }
 }

@@ -1,6 +1,5 @@
 use Rattle.std.proofs.Common.{refl}
 use Rattle.bonds.proofs.Fitted.{fitted}
-use Rattle.bonds.proofs.Recorded.{saved, loaded}
 use Rattle.bonds.proofs.worked.worked_bonds.Goals as goal
 
 pub returns : goal.returns
@@ -16,10 +15,6 @@ returns c = record {
   h_fitted = fitted;
   h_fit_taken = (refl, refl, refl);
   h_fit_refused = refl;
-  h_fit_first = refl;
-  h_both_saved = saved;
-  h_both_loaded = loaded;
-  unworked_first = (refl, refl, refl);
   h_reopened_first = refl;
   h_worked_once = λ a b c d e f. refl;
   h_marked_once = λ a b c d e f. refl;

@@ -1,9 +1,10 @@
-use Rattle.std.proofs.Common.{ℕ, drop, Result, sym, ap, ◌∙◌, subst}
-use Rattle.script.specs.declared.fault.Expected.{Expected}
-use Rattle.script.specs.Commands.{Meaning, meant}
+use Rattle.std.proofs.Common.{ℕ, length, drop, Ok, vec_items, Vec, sym, ap, ◌∙◌, arith}
+use Rattle.std.proofs.lemmas.Result.{err_from_is_err_and}
+use Rattle.std.specs.declared.alloc.Global.{Global}
+use Rattle.script.specs.Calls.{meaning}
+use Rattle.script.specs.Commands.{meant}
 use Rattle.script.specs.Cuts.{texts}
-use Rattle.script.specs.Faults.{Gives}
-use Rattle.script.proofs.Meant.{Begun, other_count, right_count}
+use Rattle.script.proofs.Meant.{Begun, other_count, no_numbers, enough, call_read}
 use Rattle.script.proofs.calls.command_from.Goals as goal
 use Rattle.script.proofs.calls.command_from.Goals.{After-words-from-rest}
 
@@ -14,6 +15,17 @@ named c =
 pub returns-then-not-takes : goal.returns-then-not-takes
 returns-then-not-takes c = other_count (named (goal.at.returns-then-not-takes c).After-words-from-rest) c.if-not-takes.ensures
 
+pub returns-in-err-numbers : goal.returns-in-err-numbers
+returns-in-err-numbers c =
+    let p = err_from_is_err_and c.from-residual-in-err-numbers.result c.from-residual-in-err-numbers.ensures.1 in
+    rw (p.1, p.2)
+    (no_numbers (named (goal.at.returns-in-err-numbers c).After-words-from-rest) c.if-not-takes.ensures (λ (v : Vec ℕ Global). vec_items v) meant _ c.in-err-numbers.ensures)
+
+pub command-of-requires : goal.command-of-requires
+command-of-requires c =
+    omega (arith, enough (named (goal.at.command-of-requires c).After-words-from-rest) c.if-not-takes.ensures c.in-ok-numbers.ensures, ap length c.deref.ensures.value)
+
 pub returns : goal.returns
 returns c =
-    subst (λ (o : Result Meaning Expected). Gives meant o c.command-of.result) (right_count (named (goal.at.returns c).After-words-from-rest) c.if-not-takes.ensures) c.command-of.ensures
+    call_read (named (goal.at.returns c).After-words-from-rest) c.if-not-takes.ensures c.in-ok-numbers.ensures
+    ∙ ap Ok (sym (c.in-ok-command-of.ensures ∙ ap (meaning c.in-ok-form.form) c.deref.ensures.value))
