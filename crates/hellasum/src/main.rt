@@ -1,4 +1,5 @@
 // Values callable and putable bonds from a script.
+#![tactic(auto)]
 mod perform;
 mod say;
 mod table;

@@ -1,4 +1,6 @@
 // Rate lattices: the trait, and the lattices that we supply.
+#![tactic(auto)]
+
 ghost use Rattle.std.specs.Prelude.{◌≡◌, ℕ, map, length};
 ghost use Rattle.std.specs.List.{range_with_len};
 ghost use Rattle.rates.specs.Model.{Model, Lawful};

@@ -1,4 +1,5 @@
 // A bond on a lattice and under a clash rule that the sheet has never heard of.
+#![tactic(auto)]
 mod split;
 mod states;
 

@@ -2,16 +2,15 @@
 --   Keeps   what the laws ask of a formula: it rises with its entries, falls with the divisor,
 --           and stays within the greatest entry
 -- Assumes nothing.
-use Rattle.std.proofs.Common.{◌≡◌, ℕ, zero, suc, ◌+◌, ◌*◌, ◌<◌, ◌≤◌, min, Bool, true, false, cond, ◌&&◌, eqb, ltb, leb, List, [], ◌∷◌, map, length, get_or, refl, ap, le_refl, mul-le-mul_left, arith}
+use Rattle.std.proofs.Common.{◌≡◌, ℕ, zero, suc, ◌+◌, ◌*◌, ◌<◌, ◌≤◌, Bool, true, false, cond, ◌&&◌, eqb, ltb, leb, List, [], ◌∷◌, map, length, get_or, refl, ap, le_refl, mul-le-mul_left, arith}
 use Rattle.std.proofs.lemmas.Bool.Decides.{nat_tests}
 use Rattle.std.proofs.lemmas.List.{length-map}
 use Rattle.std.proofs.lemmas.Bool.{cond-false, and_left, and_right, le-ltb, lt-leb, ne_eqb}
 use Rattle.rates.specs.Formulas.{width, weighted, formula, entry_at, up_to, supplied}
 use Rattle.rates.specs.Kinds.{plain}
-use Rattle.rates.specs.Model.{Lawful, Under, capped}
+use Rattle.rates.specs.Model.{Lawful, capped}
 use Rattle.rates.specs.declared.kind.Kind.{Kind}
 use Rattle.rates.specs.declared.kind.Kind.TheVariants.{Binomial, Trinomial, WorstCase}
-use Rattle.rates.specs.declared.weights.Triple.{Triple}
 use Rattle.rates.specs.declared.weights.Weights.{Weights}
 use Rattle.rates.proofs.Rounding.{rounded_rises, rounded_within}
 

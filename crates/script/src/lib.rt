@@ -1,4 +1,6 @@
 // From the text of a script to its commands, or to its first line that is no call.
+#![tactic(auto)]
+
 mod calls;
 pub mod command;
 mod cuts;

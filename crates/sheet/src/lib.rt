@@ -1,4 +1,5 @@
 // A sheet of terms on a lattice: figures, marks, and what its calls refuse.
+#![tactic(auto)]
 pub mod answer;
 mod back;
 mod edit;
