@@ -5,8 +5,7 @@ use Rattle.game.specs.declared.terms.Right.{Right}
 use Rattle.game.specs.declared.terms.Terms.{Terms}
 use Rattle.game.specs.declared.terms.Kind.{Kind}
 use Rattle.game.specs.declared.terms.Kind.TheVariants.{Call, Put}
-use Rattle.game.specs.Rule.{figure_of, mark_of, mark_number}
-use Rattle.game.specs.Game.{coupon, right, rolled_on, stream, pays, amount, redeemed, figure_from, mark_from, figure, mark}
+use Rattle.game.specs.Game.{coupon, right, stream, pays, amount, redeemed, figure_from, mark_from}
 use Rattle.game.specs.Stored.{Worked}
 use Rattle.game.proofs.Rolls.{roll_same}
 

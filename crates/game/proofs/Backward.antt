@@ -1,17 +1,16 @@
 -- Working back keeps the worked entries, and no figure is ever too large. Assumes nothing.
-use Rattle.std.proofs.Common.{◌≡◌, ℕ, zero, suc, ◌+◌, ◌-◌, ◌<◌, ◌≤◌, min, Bool, true, false, cond, ◌||◌, ltb, leb, List, [], ◌∷◌, map, length, get_or, Some, None, Option, sym, refl, ap, ◌∙◌, subst, ⊎_elim, arith}
+use Rattle.std.proofs.Common.{◌≡◌, ℕ, zero, suc, ◌+◌, ◌-◌, ◌<◌, ◌≤◌, true, false, ◌||◌, leb, List, [], map, length, get_or, Some, None, Option, refl, ap, ◌∙◌, ⊎_elim, arith}
 use Rattle.std.specs.List.{range_with_len}
 use Rattle.std.proofs.lemmas.Bool.{cases_lt, cond-true, cond-false, le-leb, lt-leb, le-ltb, leb-true, and_parts}
 use Rattle.rates.specs.Model.{Model, Lawful}
 use Rattle.game.specs.declared.terms.Right.{Right}
 use Rattle.game.specs.declared.terms.Terms.{Terms}
-use Rattle.game.specs.declared.terms.Kind.{Kind}
 use Rattle.game.specs.declared.terms.Kind.TheVariants.{Call, Put}
 use Rattle.game.specs.Clash.{Fair}
 use Rattle.game.specs.Rule.{figure_of, mark_of, mark_number}
-use Rattle.game.specs.Game.{right, stream, pays, amount, redeemed, figure_from, mark_from, figure, mark, rolled_on}
+use Rattle.game.specs.Game.{right, stream, pays, amount, redeemed, figure_from, mark_from, figure, mark}
 use Rattle.game.specs.Limits.{right_fits, Priced}
-use Rattle.game.specs.Stored.{offset, all_nodes, stored, step_row, Worked}
+use Rattle.game.specs.Stored.{offset, stored, step_row, Worked}
 use Rattle.game.specs.Working.{start, found, back_figure, back_mark, back_values, back_marks, over, too_large}
 use Rattle.game.proofs.OneNode.{Within, bounded}
 use Rattle.game.proofs.Rolls.{roll_same, rolled_small}

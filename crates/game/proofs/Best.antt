@@ -1,5 +1,5 @@
 -- No plan beats the marks. Assumes nothing.
-use Rattle.std.proofs.Common.{◌≡◌, ℕ, zero, suc, ◌+◌, ◌-◌, ◌<◌, ◌≤◌, Bool, sym, refl, ap, ◌∙◌, le_refl, arith}
+use Rattle.std.proofs.Common.{◌≡◌, ℕ, zero, suc, ◌+◌, ◌-◌, ◌<◌, ◌≤◌, Bool, ap, ◌∙◌, le_refl, arith}
 use Rattle.rates.specs.Model.{Model, Lawful}
 use Rattle.game.specs.declared.terms.Terms.{Terms}
 use Rattle.game.specs.declared.terms.Kind.TheVariants.{Call, Put}

@@ -1,5 +1,5 @@
 -- A term sheet that is worth less has no higher figure anywhere. Assumes nothing.
-use Rattle.std.proofs.Common.{◌≡◌, ℕ, zero, suc, ◌+◌, ◌-◌, ◌<◌, ◌≤◌, get_or, replicate, Some, None, Option, sym, refl, subst, le_refl, arith}
+use Rattle.std.proofs.Common.{◌≡◌, ℕ, zero, suc, ◌+◌, ◌-◌, ◌≤◌, get_or, replicate, Some, None, Option, sym, refl, subst, le_refl}
 use Rattle.rates.specs.Model.{Model, Lawful}
 use Rattle.game.specs.declared.terms.Right.{Right}
 use Rattle.game.specs.declared.terms.Terms.{Terms}

@@ -1,5 +1,5 @@
 -- What the rule of one node gives: no plan beats its marks, and it rises with what it is given. Assumes nothing.
-use Rattle.std.proofs.Common.{◌≡◌, ℕ, ◌≤◌, min, max, Bool, true, false, cond, Some, None, Option, arith}
+use Rattle.std.proofs.Common.{ℕ, ◌≤◌, Bool, true, false, Some, None, Option, arith}
 use Rattle.std.proofs.lemmas.Bool.Decides.{nat_tests}
 use Rattle.game.specs.Clash.{Fair}
 use Rattle.game.specs.Rule.{figure_of, mark_of, mark_number, play_of, calls, puts}

@@ -11,14 +11,14 @@
 --   played          the value of a node if the issuer plays the call plan p and the holder the put plan q
 --   root            the figure of node 0 of step 0
 -- Assumes nothing.
-use Rattle.std.specs.Prelude.{ℕ, zero, suc, ◌+◌, ◌-◌, Bool, List, map, replicate, Some, None, Option, slice_index, slice_index_or}
+use Rattle.std.specs.Prelude.{ℕ, zero, suc, ◌+◌, ◌-◌, Bool, map, replicate, Some, None, Option, slice_index, slice_index_or}
 use Rattle.std.specs.List.{range_with_len}
 use Rattle.rates.specs.Model.{Model}
 use Rattle.game.specs.declared.terms.Right.{Right}
 use Rattle.game.specs.declared.terms.Terms.{Terms}
 use Rattle.game.specs.declared.terms.Kind.{Kind}
 use Rattle.game.specs.declared.terms.Kind.TheVariants.{Call, Put}
-use Rattle.game.specs.Rule.{figure_of, mark_of, mark_number, play_of, calls, puts}
+use Rattle.game.specs.Rule.{figure_of, mark_of, mark_number, play_of}
 
 abbrev pub coupon : Terms → ℕ → ℕ
 coupon b t = slice_index b.coupons t
