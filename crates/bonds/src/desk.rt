@@ -2,7 +2,7 @@
 ghost use Rattle.std.specs.Prelude.{◌≡◌, ℕ, replicate};
 ghost use Rattle.game.specs.Game.{root as root_of};
 ghost use Rattle.game.specs.Rules.{rule_of};
-ghost use Rattle.sheet.specs.Calls.{costs as costs-of};
+ghost use Rattle.sheet.specs.Calls.{costs as costs_of};
 ghost use Rattle.sheet.specs.Edits.{opened};
 ghost use Rattle.bonds.specs.Desks.{meaning, rated};
 
@@ -60,7 +60,7 @@ impl<'a> Desk<'a> {
     pub fn seen(&self) -> Seen
         ensures first { result.first ≡ self.now.sheet.state.first }
         ensures root { result.root ≡ root_of (meaning self.now.sheet.lattice) (rule_of self.now.sheet.clash) self.now.sheet.state.terms self.now.sheet.state.spread }
-        ensures costs { result.costs ≡ costs-of (meaning self.now.sheet.lattice) (rule_of self.now.sheet.clash) self.now.sheet.state }
+        ensures costs { result.costs ≡ costs_of (meaning self.now.sheet.lattice) (rule_of self.now.sheet.clash) self.now.sheet.state }
         ensures rows { (result.values ≡ self.now.values) × (result.marks ≡ self.now.marks) }
     {
         Seen {

@@ -2,7 +2,7 @@
 ghost use Rattle.std.specs.Prelude.{◌≡◌, ◌≤◌, length, IfOk};
 ghost use Rattle.rates.proofs.Laws.{supplied_lawful};
 ghost use Rattle.rates.specs.Checks.{lattice_check, built};
-ghost use Rattle.rates.specs.Formulas.{before as Before-of, supplied};
+ghost use Rattle.rates.specs.Formulas.{before as before_of, supplied};
 ghost use Rattle.rates.specs.Kinds.{plain};
 ghost use Rattle.rates.specs.Refusals.{told, seen, lattice_refusal};
 
@@ -20,7 +20,7 @@ pub struct Tree<'a> {
     rates: &'a [u32],
     ghost some: { 1 ≤ last },
     ghost few: { last ≤ 64 },
-    ghost whole: { length rates.now ≡ Before-of kind last },
+    ghost whole: { length rates.now ≡ before_of kind last },
 }
 
 // The rates of a lattice that is made of a refused table.

@@ -1,6 +1,6 @@
 // A clash rule of our own: three parts for the holder and one for the issuer.
 ghost use Rattle.std.specs.Prelude.{◌≡◌};
-ghost use Rattle.maker.specs.Split.{split as split-of, split_fair};
+ghost use Rattle.maker.specs.Split.{split as split_of, split_fair};
 
 use game::clash::ClashRule;
 
@@ -8,7 +8,7 @@ use game::clash::ClashRule;
 pub struct Split;
 
 impl ClashRule for Split {
-    ghost settled = { λ _. split-of };
+    ghost settled = { λ _. split_of };
 
     ghost fair = { λ _. split_fair };
 

@@ -2,7 +2,7 @@
 ghost use Rattle.std.specs.Prelude.{◌≡◌, ℕ, ◌+◌, ◌-◌, ◌<◌, ◌≤◌, ◌++◌, length, take, drop, Ok, slice_index};
 ghost use Rattle.game.specs.Game.{root};
 ghost use Rattle.game.specs.Limits.{Payable, Priced};
-ghost use Rattle.game.specs.Stored.{offset as offset-of, all_nodes, stored};
+ghost use Rattle.game.specs.Stored.{offset as offset_of, all_nodes, stored};
 ghost use Rattle.game.specs.Working.{back_values, back_marks, over};
 ghost use Rattle.sheet.specs.Fits.{Greatest};
 
@@ -14,7 +14,7 @@ use lattice::Lattice;
 // Where the entries of step `t` begin.
 pub(crate) fn offset<L: Lattice>(lattice: &L, t: usize) -> usize
     requires { t ≤ 65 }
-    ensures { result ≡ offset-of (L.Lattice.model lattice.now) t }
+    ensures { result ≡ offset_of (L.Lattice.model lattice.now) t }
 {
     let mut sum = 0;
     for u in 0..t {

@@ -1,5 +1,6 @@
 // A sheet of terms on a lattice: figures, marks, and what its calls refuse.
 #![tactic(auto)]
+
 pub mod answer;
 mod back;
 mod edit;

@@ -1,4 +1,4 @@
-use Rattle.std.proofs.Common.{arith, rules}
+use Rattle.std.proofs.Common.{arith}
 use Rattle.rates.proofs.Tables.{rate_within, leads_within}
 use Rattle.lattice.proofs.tree.TreeLattice.roll.Goals as goal
 
