@@ -1,5 +1,5 @@
 -- The spread found by halving is the first one from the top. Assumes nothing.
-use Rattle.std.proofs.Common.{◌≡◌, ℕ, zero, suc, ◌+◌, ◌<◌, ◌≤◌, max, cond, leb, Some, None, Ok, sym, refl, ap, ◌∙◌, subst, ⊎_elim, arith}
+use Rattle.std.proofs.Common.{◌≡◌, ℕ, zero, suc, ◌<◌, ◌≤◌, max, cond, leb, Some, None, Ok, sym, ap, ◌∙◌, subst, ⊎_elim, arith}
 use Rattle.std.proofs.lemmas.Bool.{cases_lt, cond-true, cond-false, le-leb, lt-leb}
 use Rattle.rates.specs.Model.{Model}
 use Rattle.rates.specs.Refusals.{accepted}
@@ -11,7 +11,6 @@ use Rattle.sheet.specs.declared.fault.SheetFault.TheVariants.{Wanted}
 use Rattle.sheet.specs.Faults.{answer, unless}
 use Rattle.sheet.specs.Edits.{amount_fault, else_fault}
 use Rattle.sheet.specs.Fits.{greatest, fit_fault, fitted, Greatest}
-use Rattle.sheet.specs.Shared.{Standing}
 use Rattle.sheet.specs.Promises.{Fitted}
 
 module _ (m : Model) (σ : ℕ → ℕ → ℕ) (b : Terms) (want : ℕ) where

@@ -1,12 +1,12 @@
 -- An edit that passes its tests keeps the worked entries, and worked entries are best play. Assumes nothing.
-use Rattle.std.proofs.Common.{◌≡◌, ℕ, zero, suc, ◌+◌, ◌<◌, ◌≤◌, max, ◌≢◌, List, get_or, set, Some, None, Option, sym, refl, ap, ◌∙◌, subst, arith, get_or-set_other}
+use Rattle.std.proofs.Common.{◌≡◌, ℕ, ◌+◌, ◌<◌, ◌≤◌, max, ◌≢◌, List, Some, None, Option, sym, refl, arith, get_or-set_other}
 use Rattle.rates.specs.Model.{Model, Lawful}
 use Rattle.game.specs.declared.terms.Right.{Right}
 use Rattle.game.specs.declared.terms.Terms.{Terms}
 use Rattle.game.specs.declared.terms.Kind.{Kind}
 use Rattle.game.specs.declared.terms.Kind.TheVariants.{Call, Put}
 use Rattle.game.specs.Clash.{Fair}
-use Rattle.game.specs.Game.{coupon, right}
+use Rattle.game.specs.Game.{right}
 use Rattle.game.specs.Stored.{stored}
 use Rattle.game.proofs.Alike.{Alike, edit_keeps, respread_keeps, none_worked}
 use Rattle.game.proofs.Best.{best_play}

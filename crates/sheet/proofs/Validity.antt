@@ -1,18 +1,18 @@
 -- An edit that passes its tests leaves terms within their limits. Assumes nothing.
-use Rattle.std.proofs.Common.{◌≡◌, ℕ, zero, suc, ◌+◌, ◌-◌, ◌<◌, ◌≤◌, max, Bool, true, false, cond, ◌&&◌, ltb, leb, List, [], ◌∷◌, get_or, set, Some, None, Option, sym, refl, ap, ◌∙◌, subst, ⊎_elim, arith}
+use Rattle.std.proofs.Common.{◌≡◌, ℕ, zero, suc, ◌+◌, ◌-◌, ◌<◌, ◌≤◌, Bool, true, false, cond, ◌&&◌, ltb, leb, List, [], ◌∷◌, get_or, set, Some, None, Option, sym, refl, ap, ◌∙◌, ⊎_elim, arith}
 use Rattle.std.proofs.lemmas.Bool.{cases_Bool, cond-true, cond-false, leb-true, ltb-true, le-leb, and_parts, and_from}
 use Rattle.game.specs.declared.terms.Right.{Right}
 use Rattle.game.specs.declared.terms.Terms.{Terms}
 use Rattle.game.specs.declared.terms.Kind.{Kind}
 use Rattle.game.specs.declared.terms.Kind.TheVariants.{Call, Put}
-use Rattle.game.specs.Game.{coupon, right}
+use Rattle.game.specs.Game.{right}
 use Rattle.game.specs.Limits.{right_fits, Priced, Payable}
 use Rattle.game.proofs.Comparing.{all_same}
 use Rattle.sheet.specs.declared.state.State.{State}
 use Rattle.sheet.specs.declared.edit.Edit.{Edit}
 use Rattle.sheet.specs.declared.edit.Edit.TheVariants.{Coupon, Enter, Cancel, Redeem, Spread as Respread}
 use Rattle.sheet.specs.declared.fault.SheetFault.{SheetFault}
-use Rattle.sheet.specs.declared.fault.SheetFault.TheVariants.{Step, Notice, Amount, Spread, NoRight}
+use Rattle.sheet.specs.declared.fault.SheetFault.TheVariants.{Step, Notice, Amount, Spread}
 use Rattle.sheet.specs.Edits.{opened, set_right, edited, edit_fault, amount_fault, coupon_fault, notice_fault, right_fault, cancel_fault, spread_fault, else_fault, missing}
 
 -- what holds of the state of every sheet

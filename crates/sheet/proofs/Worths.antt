@@ -1,5 +1,5 @@
 -- The root figure and the costs keep their promises. Assumes nothing.
-use Rattle.std.proofs.Common.{◌≡◌, ℕ, ◌+◌, ◌-◌, ◌≤◌, cond, leb, List, length, Some, None, sym, refl, ap, ◌∙◌, subst, arith}
+use Rattle.std.proofs.Common.{◌≡◌, ℕ, ◌-◌, cond, leb, List, length, Some, None, refl, ap, ◌∙◌, arith}
 use Rattle.std.proofs.lemmas.Bool.{leb-true}
 use Rattle.game.specs.Stored.{all_nodes}
 use Rattle.sheet.specs.declared.fault.SheetFault.TheVariants.{Rows, Unworked}
@@ -16,7 +16,6 @@ use Rattle.game.specs.Limits.{right_fits, Priced}
 use Rattle.game.proofs.Best.{best_play}
 use Rattle.game.proofs.Comparing.{all_same, falls_with_spread, calls_cost, puts_worth}
 use Rattle.sheet.specs.declared.state.State.{State}
-use Rattle.sheet.specs.declared.answer.Costs.{Costs}
 use Rattle.sheet.specs.Calls.{costs}
 use Rattle.sheet.specs.Promises.{RootFigure, Costed}
 

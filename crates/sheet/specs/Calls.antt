@@ -6,7 +6,7 @@
 --   entry        the stored figure and mark of a node; read_fault why it is not answered
 --   costs        what the calls cost the holder, and what the puts are worth to him, at the root
 -- Assumes nothing.
-use Rattle.std.specs.Prelude.{ℕ, ◌+◌, ◌-◌, min, cond, ◌&&◌, List, length, Some, None, Option, nat_le, nat_lt}
+use Rattle.std.specs.Prelude.{ℕ, ◌-◌, min, cond, ◌&&◌, List, length, Some, None, Option, nat_le, nat_lt}
 use Rattle.rates.specs.Model.{Model}
 use Rattle.game.specs.declared.terms.Kind.TheVariants.{Call, Put}
 use Rattle.game.specs.Game.{root, without}

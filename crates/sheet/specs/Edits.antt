@@ -3,7 +3,7 @@
 --   edited        the state that an edit leaves: one thing set, and the first worked step by the rule of that edit
 --   edit_fault    the first ground on which it is turned down, in the order of the numbers
 -- Assumes nothing.
-use Rattle.std.specs.Prelude.{ℕ, ◌+◌, ◌-◌, max, cond, ◌&&◌, set, replicate, Some, None, Option, nat_le, nat_lt, slice_set}
+use Rattle.std.specs.Prelude.{ℕ, ◌+◌, ◌-◌, max, cond, ◌&&◌, replicate, Some, None, Option, nat_le, nat_lt, slice_set}
 use Rattle.game.specs.declared.terms.Right.{Right}
 use Rattle.game.specs.declared.terms.Terms.{Terms}
 use Rattle.game.specs.declared.terms.Kind.{Kind}

@@ -1,4 +1,4 @@
-use Rattle.std.proofs.Common.{◌≡◌, ◌+◌, ◌-◌, ◌<◌, [], get_or, ap, ◌∙◌, arith}
+use Rattle.std.proofs.Common.{◌≡◌, ◌+◌, ◌-◌, ◌<◌, [], ap, ◌∙◌, arith}
 use Rattle.game.specs.Working.{back_figure}
 use Rattle.game.proofs.Backward.{back_from_end}
 use Rattle.sheet.proofs.Stepping.{stepped_figure_is}
@@ -9,7 +9,7 @@ loop-t-preserved g c = λ j h.
     let m = g.L.Lattice.model c.args.lattice.now in
     let σ = g.K.ClashRule.settled c.args.clash.now in
     let u = c.loop-t.t in
-    c.work-step.ensures.figures j h
+    c.work_step.ensures.figures j h
     ∙ stepped_figure_is m σ c.args.terms.now c.args.spread (c.steps-first.result + 1) [] (u - 1) u c.loop-t.figures (omega arith) (omega arith) c.loop-t.invariant j
 
 pub returns : goal.returns

@@ -1,4 +1,4 @@
-use Rattle.std.proofs.Common.{◌≡◌, []}
+use Rattle.std.proofs.Common.{[]}
 use Rattle.sheet.proofs.Stepping.{Holds}
 use Rattle.sheet.proofs.back.root_of.Given as goal
 

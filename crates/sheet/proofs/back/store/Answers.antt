@@ -7,7 +7,7 @@ returns g c =
     let from = c.args.from in
     let row = c.args.row.now in
     let step = c.args.step.now in
-    let part = c.copy-from-slice.new.self in
+    let part = c.copy_from_slice.new.self in
     let k : from + (from + length step - from) ≡ from + length step = omega arith in
     ap (λ xs. take from row ++ (part ++ xs)) (drop-drop (from + length step - from) from row ∙ ap (λ n. drop n row) k)
-    ∙ ap (λ xs. take from row ++ (xs ++ drop (from + length step) row)) c.copy-from-slice.ensures.after
+    ∙ ap (λ xs. take from row ++ (xs ++ drop (from + length step) row)) c.copy_from_slice.ensures.after

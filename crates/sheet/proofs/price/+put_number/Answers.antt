@@ -1,8 +1,8 @@
-use Rattle.std.proofs.Common.{◌≡◌, ℕ, ◌+◌, ◌/◌, ◌%◌, ◌^◌, ◌<◌, ◌≤◌, List, [], ◌∷◌, ◌++◌, length, set, decimal, sym, refl, ap, ◌∙◌, arith, rules}
+use Rattle.std.proofs.Common.{◌≡◌, ℕ, ◌+◌, ◌/◌, ◌%◌, ◌^◌, ◌<◌, ◌≤◌, List, [], ◌∷◌, ◌++◌, length, set, decimal, sym, ap, ◌∙◌, arith}
 use Rattle.std.proofs.lemmas.Fmt.{decimal_digit, decimal_step}
 use Rattle.std.proofs.lemmas.List.{length_push}
 use Rattle.sheet.specs.Prices.{laid}
-use Rattle.sheet.proofs.Laid.{length_laid, laid_more, laid_one}
+use Rattle.sheet.proofs.Laid.{laid_more, laid_one}
 use Rattle.sheet.proofs.price.+put_number.Goals as goal
 
 one : (n : ℕ) → n < 10 → length (decimal n) ≡ 1
@@ -14,14 +14,14 @@ more n h k = ap length (decimal_step n h (omega arith)) ∙ length_push (decimal
 pub bounds-out-at : goal.bounds-out-at
 bounds-out-at t c = omega (arith, one c.args.n (omega arith))
 
-pub put-number-next-requires : goal.put-number-next-requires
-put-number-next-requires t c = (omega arith, omega (arith, more c.args.n (omega arith) (omega arith)))
+pub put_number-next-requires : goal.put_number-next-requires
+put_number-next-requires t c = (omega arith, omega (arith, more c.args.n (omega arith) (omega arith)))
 
 pub bounds-out-next : goal.bounds-out-next
 bounds-out-next t c = omega (arith, more c.args.n (omega arith) (omega arith))
 
-pub overflow-add-result-else-n-lt10 : goal.overflow-add-result-else-n-lt10
-overflow-add-result-else-n-lt10 t c = omega (arith, more c.args.n (omega arith) (omega arith))
+pub overflow_add-result-else-n-lt10 : goal.overflow_add-result-else-n-lt10
+overflow_add-result-else-n-lt10 t c = omega (arith, more c.args.n (omega arith) (omega arith))
 
 pub returns-then-n-lt10 : goal.returns-then-n-lt10
 returns-then-n-lt10 t c =
@@ -38,11 +38,11 @@ returns-else-n-lt10 t c =
     let d : List ℕ = c.args.out.now in
     let o = more n (omega arith) (omega arith) in
     let e : decimal n ≡ decimal (n / 10) ++ ((48 + n % 10) ∷ []) = decimal_step n (omega arith) (omega arith) in
-    let i = c.put-number-next.ensures.place in
+    let i = c.put_number-next.ensures.place in
     record {
       place = omega arith;
       bytes =
-          ap (λ (x : List ℕ). set x c.put-number-next.result (48 + n % 10)) c.put-number-next.ensures.bytes
+          ap (λ (x : List ℕ). set x c.put_number-next.result (48 + n % 10)) c.put_number-next.ensures.bytes
           ∙ ap (λ (k : ℕ). set (laid d c.args.at (decimal (n / 10))) k (48 + n % 10)) i
           ∙ laid_more d c.args.at (decimal (n / 10)) (48 + n % 10) (omega arith)
           ∙ ap (laid d c.args.at) (sym e);

@@ -1,4 +1,4 @@
-use Rattle.std.proofs.Common.{◌≡◌, ℕ, suc, ◌+◌, ◌-◌, ◌<◌, get_or, sym, refl, ap, ◌∙◌, arith}
+use Rattle.std.proofs.Common.{◌≡◌, suc, ◌+◌, ◌-◌, ◌<◌, get_or, sym, refl, ap, ◌∙◌, arith}
 use Rattle.std.proofs.lemmas.List.{get_or-replicate}
 use Rattle.game.specs.Game.{stream}
 use Rattle.game.proofs.Rolls.{roll_same}
@@ -29,7 +29,7 @@ loop-u-preserved g c = (
       let u = c.loop-u.u in
       let up : u - 1 + 1 ≡ u = omega arith in
       let e : suc (last - u) ≡ last - (u - 1) = omega arith in
-      c.roll-back.ensures j h
+      c.roll_back.ensures j h
       ∙ roll_same m b b s (u - 1) j (λ i. get_or c.loop-u.row i 0) (stream m b s x (last - u) (u - 1 + 1)) refl
       (λ i l. c.loop-u.invariant.1 i (omega (arith, ap m.count up)) ∙ ap (λ v. stream m b s x (last - u) v i) (sym up))
       ∙ ap (λ d. stream m b s x d (u - 1) j) e,

@@ -5,14 +5,14 @@ use Rattle.game.proofs.Rows.{count_few}
 use Rattle.sheet.proofs.Rolling.{rolled_node}
 use Rattle.sheet.proofs.rows.roll_back.Goals as goal
 
-pub slice-bounds-next-end : goal.slice-bounds-next-end
-slice-bounds-next-end g c = let w : c.nodes-w.result ≤ 129 = omega (arith, count_few (g.L.Lattice.lawful c.args.lattice.now) (c.args.t + 1)) in search rules
+pub slice_bounds-next-end : goal.slice_bounds-next-end
+slice_bounds-next-end g c = let w : c.nodes-w.result ≤ 129 = omega (arith, count_few (g.L.Lattice.lawful c.args.lattice.now) (c.args.t + 1)) in search rules
 
-pub slice-bounds-roll-row-end : goal.slice-bounds-roll-row-end
-slice-bounds-roll-row-end g c = let w : c.nodes-w.result ≤ 129 = omega (arith, count_few (g.L.Lattice.lawful c.args.lattice.now) (c.args.t + 1)) in search (rules, places)
+pub slice_bounds-roll_row-end : goal.slice_bounds-roll_row-end
+slice_bounds-roll_row-end g c = let w : c.nodes-w.result ≤ 129 = omega (arith, count_few (g.L.Lattice.lawful c.args.lattice.now) (c.args.t + 1)) in search (rules, places)
 
-pub slice-bounds-roll-row-end-2 : goal.slice-bounds-roll-row-end-2
-slice-bounds-roll-row-end-2 g c = let n : c.nodes-n.result ≤ 129 = omega (arith, count_few (g.L.Lattice.lawful c.args.lattice.now) c.args.t) in search rules
+pub slice_bounds-roll_row-end-2 : goal.slice_bounds-roll_row-end-2
+slice_bounds-roll_row-end-2 g c = let n : c.nodes-n.result ≤ 129 = omega (arith, count_few (g.L.Lattice.lawful c.args.lattice.now) c.args.t) in search rules
 
 pub returns : goal.returns
 returns g c =
@@ -21,14 +21,14 @@ returns g c =
     let t = c.args.t in
     let s = c.args.spread in
     let row = c.args.row.now in
-    let added = c.add-coupon.new.row in
+    let added = c.add_coupon.new.row in
     let w = c.nodes-w.result - 0 in
     let n = c.nodes-n.result - 0 in
     let wide : w ≤ length row = omega (arith, count_few laws (t + 1)) in
     let tall : n ≤ length row = omega (arith, count_few laws t) in
-    let long : length added ≡ w = ap length c.add-coupon.ensures ∙ length-map (take w row) _ ∙ length-take-le w row wide in
-    let out : c.roll-row.new.out ≡ map (λ j. m.rolled t j s added) (range_with_len 0 n) =
-    c.roll-row.ensures
+    let long : length added ≡ w = ap length c.add_coupon.ensures ∙ length-map (take w row) _ ∙ length-take-le w row wide in
+    let out : c.roll_row.new.out ≡ map (λ j. m.rolled t j s added) (range_with_len 0 n) =
+    c.roll_row.ensures
     ∙ ap (λ xs. map (λ j. m.rolled t j s xs) (range_with_len 0 (length (take n row)))) (take_at added _ w long)
     ∙ ap (λ k. map (λ j. m.rolled t j s added) (range_with_len 0 k)) (length-take-le n row tall) in
-    rolled_node laws c.args.terms.now s t n w row added c.roll-row.new.out _ (omega arith) (omega arith) wide c.add-coupon.ensures out
+    rolled_node laws c.args.terms.now s t n w row added c.roll_row.new.out _ (omega arith) (omega arith) wide c.add_coupon.ensures out

@@ -4,23 +4,23 @@ use Rattle.game.proofs.Comparing.{calls_cost, puts_worth}
 use Rattle.sheet.proofs.Worths.{without_priced, costs_are}
 use Rattle.sheet.proofs.sheet.Sheet.costs.Goals as goal
 
-pub root-of-requires : goal.root-of-requires
-root-of-requires g c = let s = c.args.self.now in record { payable = s.payable; priced = without_priced Call s.state.terms s.priced }
+pub root_of-requires : goal.root_of-requires
+root_of-requires g c = let s = c.args.self.now in record { payable = s.payable; priced = without_priced Call s.state.terms s.priced }
 
-pub root-of-requires-2 : goal.root-of-requires-2
-root-of-requires-2 g c = let s = c.args.self.now in record { payable = s.payable; priced = without_priced Put s.state.terms s.priced }
+pub root_of-requires-2 : goal.root_of-requires-2
+root_of-requires-2 g c = let s = c.args.self.now in record { payable = s.payable; priced = without_priced Put s.state.terms s.priced }
 
-pub overflow-sub-result : goal.overflow-sub-result
-overflow-sub-result g c =
+pub overflow_sub-result : goal.overflow_sub-result
+overflow_sub-result g c =
     let s = c.args.self.now in
     omega (arith, calls_cost (g.L.Lattice.model s.lattice) (g.L.Lattice.lawful s.lattice) (g.K.ClashRule.settled s.clash) (g.K.ClashRule.fair s.clash) s.state.terms s.state.spread)
 
-pub overflow-sub-result-2 : goal.overflow-sub-result-2
-overflow-sub-result-2 g c =
+pub overflow_sub-result-2 : goal.overflow_sub-result-2
+overflow_sub-result-2 g c =
     let s = c.args.self.now in
     omega (arith, puts_worth (g.L.Lattice.model s.lattice) (g.L.Lattice.lawful s.lattice) (g.K.ClashRule.settled s.clash) (g.K.ClashRule.fair s.clash) s.state.terms s.state.spread)
 
 pub returns : goal.returns
 returns g c =
     let s = c.args.self.now in
-    costs_are (g.L.Lattice.model s.lattice) (g.L.Lattice.lawful s.lattice) (g.K.ClashRule.settled s.clash) (g.K.ClashRule.fair s.clash) s.state c.root_of.result c.root-of-root.result c.root-of-2.result c.root_of.ensures c.root-of-root.ensures c.root-of-2.ensures
+    costs_are (g.L.Lattice.model s.lattice) (g.L.Lattice.lawful s.lattice) (g.K.ClashRule.settled s.clash) (g.K.ClashRule.fair s.clash) s.state c.root_of.result c.root_of-root.result c.root_of-2.result c.root_of.ensures c.root_of-root.ensures c.root_of-2.ensures
