@@ -1,5 +1,5 @@
 -- The fits of a worked bond: a root figure that is too low stays too low at every greater spread. Assumes nothing.
-use Rattle.std.proofs.Common.{◌≡◌, ℕ, ◌+◌, ◌<◌, ◌≤◌, [], ◌∷◌, refl, arith, lit≤}
+use Rattle.std.proofs.Common.{◌≡◌, ℕ, ◌+◌, ◌<◌, ◌≤◌, [], ◌∷◌, arith, lit≤}
 use Rattle.rates.specs.Model.{Lawful}
 use Rattle.rates.specs.declared.kind.Kind.TheVariants.{Binomial}
 use Rattle.rates.proofs.Laws.{supplied_lawful}

@@ -1,5 +1,6 @@
 // Prints worked bonds, the limits of what is taken, and which ground of two is answered.
 #![tactic(auto)]
+
 mod ask;
 mod desk;
 mod limits;

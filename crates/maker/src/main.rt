@@ -1,5 +1,6 @@
 // A bond on a lattice and under a clash rule that the sheet has never heard of.
 #![tactic(auto)]
+
 mod split;
 mod states;
 
