@@ -63,7 +63,7 @@ fn reads_rates(rt: HostRuntime) -> Result<(), Fail> {
     assert!(rt; commands.len() == 1);
     match &commands[0] {
         Command::Lattice { rates, .. } => {
-            assert!(rt; rates.as_slice() == &[50000, 40000, 60000]);
+            assert!(rt; rates.as_slice() == [50000, 40000, 60000].as_slice());
             Ok(())
         },
         _ => Err(Fail::new("no lattice")),

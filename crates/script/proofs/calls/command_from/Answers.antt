@@ -6,26 +6,26 @@ use Rattle.script.specs.Commands.{meant}
 use Rattle.script.specs.Cuts.{texts}
 use Rattle.script.proofs.Meant.{Begun, other_count, no_numbers, enough, call_read}
 use Rattle.script.proofs.calls.command_from.Goals as goal
-use Rattle.script.proofs.calls.command_from.Goals.{After-words-from-rest}
+use Rattle.script.proofs.calls.command_from.Goals.{After-words_from-rest}
 
-named : (c : After-words-from-rest) → Begun (texts c.args.words.now) c.in-ok-form.form c.words-from-rest.result.now
+named : (c : After-words_from-rest) → Begun (texts c.args.words.now) c.in_ok-form.form c.words_from-rest.result.now
 named c =
-    record { form = c.in-ok-form.ensures; rest = c.words-from-rest.ensures ∙ ap (λ (n : ℕ). drop n (texts c.args.words.now)) c.name-length.ensures }
+    record { form = c.in_ok-form.ensures; rest = c.words_from-rest.ensures ∙ ap (λ (n : ℕ). drop n (texts c.args.words.now)) c.name_length.ensures }
 
 pub returns-then-not-takes : goal.returns-then-not-takes
-returns-then-not-takes c = other_count (named (goal.at.returns-then-not-takes c).After-words-from-rest) c.if-not-takes.ensures
+returns-then-not-takes c = other_count (named (goal.at.returns-then-not-takes c).After-words_from-rest) c.if-not-takes.ensures
 
-pub returns-in-err-numbers : goal.returns-in-err-numbers
-returns-in-err-numbers c =
-    let p = err_from_is_err_and c.from-residual-in-err-numbers.result c.from-residual-in-err-numbers.ensures.1 in
+pub returns-in_err-numbers : goal.returns-in_err-numbers
+returns-in_err-numbers c =
+    let p = err_from_is_err_and c.from_residual-in_err-numbers.result c.from_residual-in_err-numbers.ensures.1 in
     rw (p.1, p.2)
-    (no_numbers (named (goal.at.returns-in-err-numbers c).After-words-from-rest) c.if-not-takes.ensures (λ (v : Vec ℕ Global). vec_items v) meant _ c.in-err-numbers.ensures)
+    (no_numbers (named (goal.at.returns-in_err-numbers c).After-words_from-rest) c.if-not-takes.ensures (λ (v : Vec ℕ Global). vec_items v) meant _ c.in_err-numbers.ensures)
 
-pub command-of-requires : goal.command-of-requires
-command-of-requires c =
-    omega (arith, enough (named (goal.at.command-of-requires c).After-words-from-rest) c.if-not-takes.ensures c.in-ok-numbers.ensures, ap length c.deref.ensures.value)
+pub command_of-requires : goal.command_of-requires
+command_of-requires c =
+    omega (arith, enough (named (goal.at.command_of-requires c).After-words_from-rest) c.if-not-takes.ensures c.in_ok-numbers.ensures, ap length c.deref.ensures.value)
 
 pub returns : goal.returns
 returns c =
-    call_read (named (goal.at.returns c).After-words-from-rest) c.if-not-takes.ensures c.in-ok-numbers.ensures
-    ∙ ap Ok (sym (c.in-ok-command-of.ensures ∙ ap (meaning c.in-ok-form.form) c.deref.ensures.value))
+    call_read (named (goal.at.returns c).After-words_from-rest) c.if-not-takes.ensures c.in_ok-numbers.ensures
+    ∙ ap Ok (sym (c.in_ok-command_of.ensures ∙ ap (meaning c.in_ok-form.form) c.deref.ensures.value))

@@ -5,9 +5,9 @@ use Rattle.script.specs.Calls.{meaning}
 use Rattle.script.specs.Commands.{lattice}
 use Rattle.script.proofs.calls.command_of.Goals as goal
 
-pub returns-in-ok-rates : goal.returns-in-ok-rates
-returns-in-ok-rates c =
+pub returns-in_ok-rates-in-Lattice : goal.returns-in_ok-rates-in-Lattice
+returns-in_ok-rates-in-Lattice c =
     let ns : List ℕ = c.args.numbers.now in
     let is = c.in-Lattice.is in
-    let rates = c.in-ok-rates.ensures.items ∙ take_rest ns c.count.result ∙ ap (λ (n : ℕ). drop n ns) c.count.ensures in
-    (λ i. lattice (c.shape-of.ensures i) (get_or ns 0 0) (rates i)) ∙ sym (ap (λ (f : Form). meaning f ns) is)
+    let rates = c.in_ok-rates-in-Lattice.ensures.items ∙ take_rest ns c.count.result ∙ ap (λ (n : ℕ). drop n ns) c.count.ensures in
+    (λ i. lattice (c.shape_of.ensures i) (get_or ns 0 0) (rates i)) ∙ sym (ap (λ (f : Form). meaning f ns) is)

@@ -16,7 +16,7 @@ returns-in-None c =
 pub loop-word-preserved : goal.loop-word-preserved
 loop-word-preserved c =
     word_read c.args.words.now c.loop-word.word-index (vec_items c.loop-word.found) c.loop-word.invariant _ c.loop-word-test.true _ (sym c.number.ensures ∙ c.in-Some.is)
-    (pushed (c.in-Some.n ∷ []) refl c.in-ok-push.was c.push.ensures.items)
+    (pushed (c.in-Some.n ∷ []) refl c.in_ok-push-in-Some.was c.push.ensures.items)
 
 pub returns : goal.returns
 returns c =

@@ -10,22 +10,22 @@ use Rattle.script.specs.Faults.{Gives}
 use Rattle.script.specs.Script.{line_from}
 use Rattle.script.proofs.Reading.{no_words, line_stopped}
 use Rattle.script.proofs.script.read_line.Goals as goal
-use Rattle.script.proofs.script.read_line.Goals.{After-is-empty}
+use Rattle.script.proofs.script.read_line.Goals.{After-is_empty}
 
 -- as many words as were found
-counted : (c : After-is-empty) → length (texts (vec_items c.in-ok-words.words)) ≡ vec_len c.in-ok-words.words
-counted c = length-map (vec_items c.in-ok-words.words) (λ (w : Bor (List ℕ)). w.now) ∙ sym c.in-ok-words.words.ok.0
+counted : (c : After-is_empty) → length (texts (vec_items c.in_ok-words.words)) ≡ vec_len c.in_ok-words.words
+counted c = length-map (vec_items c.in_ok-words.words) (λ (w : Bor (List ℕ)). w.now) ∙ sym c.in_ok-words.words.ok.0
 
-pub returns-then-is-empty : goal.returns-then-is-empty
-returns-then-is-empty c =
-    ap (line_from c.args.«open») (sym c.in-ok-words.ensures)
-    ∙ no_words c.args.«open» (texts (vec_items c.in-ok-words.words)) (counted (goal.at.returns-then-is-empty c).After-is-empty ∙ eqb-true _ 0 (sym c.if-is-empty.ensures))
+pub returns-then-is_empty : goal.returns-then-is_empty
+returns-then-is_empty c =
+    ap (line_from c.args.«open») (sym c.in_ok-words.ensures)
+    ∙ no_words c.args.«open» (texts (vec_items c.in_ok-words.words)) (counted (goal.at.returns-then-is_empty c).After-is_empty ∙ eqb-true _ 0 (sym c.if-is_empty.ensures))
 
-pub returns-in-err-command : goal.returns-in-err-command
-returns-in-err-command c =
-    let p = err_from_is_err_and c.from-residual-in-err-command.result c.from-residual-in-err-command.ensures.1 in
-    let ws : List (List ℕ) = texts (vec_items c.in-ok-words.words) in
-    let some = λ (e : length ws ≡ 0). eqb-false (vec_len c.in-ok-words.words) 0 (sym c.if-is-empty.ensures) (sym (counted (goal.at.returns-in-err-command c).After-is-empty) ∙ e) in
-    let stop = subst (λ (vs : List (Bor (List ℕ))). Gives meant (call_of (texts vs)) (Err c.in-err-command.field-0.0)) c.deref.ensures.value c.in-err-command.ensures in
+pub returns-in_err-command : goal.returns-in_err-command
+returns-in_err-command c =
+    let p = err_from_is_err_and c.from_residual-in_err-command.result c.from_residual-in_err-command.ensures.1 in
+    let ws : List (List ℕ) = texts (vec_items c.in_ok-words.words) in
+    let some = λ (e : length ws ≡ 0). eqb-false (vec_len c.in_ok-words.words) 0 (sym c.if-is_empty.ensures) (sym (counted (goal.at.returns-in_err-command c).After-is_empty) ∙ e) in
+    let stop = subst (λ (vs : List (Bor (List ℕ))). Gives meant (call_of (texts vs)) (Err c.in_err-command.field-0.0)) c.deref.ensures.value c.in_err-command.ensures in
     rw (p.1, p.2)
-    (subst (λ (vs : List (List ℕ)). Gives (option_map meant) (line_from c.args.«open» vs) (Err c.in-err-command.field-0.0)) c.in-ok-words.ensures (line_stopped meant (option_map meant) c.args.«open» ws some _ stop))
+    (subst (λ (vs : List (List ℕ)). Gives (option_map meant) (line_from c.args.«open» vs) (Err c.in_err-command.field-0.0)) c.in_ok-words.ensures (line_stopped meant (option_map meant) c.args.«open» ws some _ stop))

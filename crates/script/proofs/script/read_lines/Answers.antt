@@ -23,19 +23,19 @@ returns-in-Err c =
 pub loop-rest-smaller : goal.loop-rest-smaller
 loop-rest-smaller c = shorter (cut_off (goal.at.loop-rest-smaller c).After-cut)
 
-pub loop-rest-smaller-in-ok-push : goal.loop-rest-smaller-in-ok-push
-loop-rest-smaller-in-ok-push c = shorter (cut_off (goal.at.loop-rest-smaller-in-ok-push c).After-cut)
+pub loop-rest-smaller-in_ok-push : goal.loop-rest-smaller-in_ok-push
+loop-rest-smaller-in_ok-push c = shorter (cut_off (goal.at.loop-rest-smaller-in_ok-push c).After-cut)
 
 pub loop-rest-preserved : goal.loop-rest-preserved
 loop-rest-preserved c =
     let cut = cut_off (goal.at.loop-rest-preserved c).After-cut in
-    (line_none c.loop-rest.invariant.0 cut c.in-Ok.ensures c.in-default.is, omega (arith, shorter cut))
+    (line_none c.loop-rest.invariant.0 cut c.in-Ok.ensures c.in_default.is, omega (arith, shorter cut))
 
-pub loop-rest-preserved-in-ok-push : goal.loop-rest-preserved-in-ok-push
-loop-rest-preserved-in-ok-push c =
-    let cut = cut_off (goal.at.loop-rest-preserved-in-ok-push c).After-cut in
-    let put = pushed (c.in-Some.command ∷ []) refl c.in-ok-push.was c.push.ensures.items in
-    (line_call c.loop-rest.invariant.0 cut c.in-Ok.ensures c.in-Some.is c.opens-sheet-open.ensures (ap (map meant) put ∙ map_push meant _ _), omega (arith, shorter cut))
+pub loop-rest-preserved-in_ok-push : goal.loop-rest-preserved-in_ok-push
+loop-rest-preserved-in_ok-push c =
+    let cut = cut_off (goal.at.loop-rest-preserved-in_ok-push c).After-cut in
+    let put = pushed (c.in-Some.command ∷ []) refl c.in_ok-push.was c.push.ensures.items in
+    (line_call c.loop-rest.invariant.0 cut c.in-Ok.ensures c.in-Some.is c.opens_sheet-open.ensures (ap (map meant) put ∙ map_push meant _ _), omega (arith, shorter cut))
 
 pub returns : goal.returns
 returns c = lines_all c.loop-rest.invariant.0 c.loop-rest-test.ensures

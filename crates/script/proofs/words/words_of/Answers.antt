@@ -16,16 +16,16 @@ loop-rest-init c = words_none (cuts Blank) (ap texts c.new-found.ensures.items) 
 pub loop-rest-smaller : goal.loop-rest-smaller
 loop-rest-smaller c = shorter (cut_off (goal.at.loop-rest-smaller c).After-cut-in-loop-rest)
 
-pub loop-rest-smaller-in-ok-push : goal.loop-rest-smaller-in-ok-push
-loop-rest-smaller-in-ok-push c = shorter (cut_off (goal.at.loop-rest-smaller-in-ok-push c).After-cut-in-loop-rest)
+pub loop-rest-smaller-in_ok-push : goal.loop-rest-smaller-in_ok-push
+loop-rest-smaller-in_ok-push c = shorter (cut_off (goal.at.loop-rest-smaller-in_ok-push c).After-cut-in-loop-rest)
 
 pub loop-rest-preserved : goal.loop-rest-preserved
-loop-rest-preserved c = word_none c.loop-rest.invariant (cut_off (goal.at.loop-rest-preserved c).After-cut-in-loop-rest) c.if-not-is-empty.ensures
+loop-rest-preserved c = word_none c.loop-rest.invariant (cut_off (goal.at.loop-rest-preserved c).After-cut-in-loop-rest) c.if-not-is_empty.ensures
 
-pub loop-rest-preserved-in-ok-push : goal.loop-rest-preserved-in-ok-push
-loop-rest-preserved-in-ok-push c =
-    let put = pushed (c.cut-in-loop-rest.result.0 ∷ []) refl c.in-ok-push.was c.push.ensures.items in
-    word_more c.loop-rest.invariant (cut_off (goal.at.loop-rest-preserved-in-ok-push c).After-cut-in-loop-rest) c.if-not-is-empty.ensures
+pub loop-rest-preserved-in_ok-push : goal.loop-rest-preserved-in_ok-push
+loop-rest-preserved-in_ok-push c =
+    let put = pushed (c.cut-in-loop-rest.result.0 ∷ []) refl c.in_ok-push.was c.push.ensures.items in
+    word_more c.loop-rest.invariant (cut_off (goal.at.loop-rest-preserved-in_ok-push c).After-cut-in-loop-rest) c.if-not-is_empty.ensures
     (ap texts put ∙ map_push (λ (w : Bor (List ℕ)). w.now) _ _)
 
 pub returns : goal.returns
