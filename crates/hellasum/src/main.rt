@@ -1,5 +1,6 @@
 // Values callable and putable bonds from a script.
 #![tactic(auto)]
+
 mod perform;
 mod say;
 mod table;
@@ -8,6 +9,7 @@ use perform::run;
 use script::{ReadError, read_script};
 use std::alloc::Global;
 use std::io::Read;
+use std::process::ExitCode;
 use std::{env, fs, io};
 
 static HELP: &str = "usage: hellasum [SCRIPT]
@@ -83,26 +85,34 @@ fn perform_text(rt: &HostRuntime, text: &[u8]) -> io::Result<()> {
     }
 }
 
-fn main(rt: HostRuntime) -> io::Result<()> {
-    match asked(&rt)? {
+fn perform_request(rt: &HostRuntime) -> io::Result<()> {
+    match asked(rt)? {
         Request::Help => print!(rt; "{HELP}"),
         Request::Nonsense => {
             eprintln!(rt; "usage: hellasum [SCRIPT]")?;
             Err(io::Error::from(io::ErrorKind::InvalidInput))
         }
         Request::Input => {
-            let text = input(&rt)?;
-            perform_text(&rt, &text)
+            let text = input(rt)?;
+            perform_text(rt, &text)
         }
         Request::File(path) => {
-            let text = match fs::read(&rt, path.as_str()) {
+            let text = match fs::read(rt, path.as_str()) {
                 Ok(text) => text,
                 Err(e) => {
                     eprintln!(rt; "cannot read {path}")?;
                     return Err(e);
                 }
             };
-            perform_text(&rt, &text)
+            perform_text(rt, &text)
         }
+    }
+}
+
+// A fault has been told by then; that a stream failed, the status tells alone.
+fn main(rt: HostRuntime) -> ExitCode {
+    match perform_request(&rt) {
+        Ok(()) => ExitCode::SUCCESS,
+        Err(_) => ExitCode::FAILURE,
     }
 }
