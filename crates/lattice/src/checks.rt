@@ -1,7 +1,7 @@
 // The table that a kind of lattice wants, and the checks of what a host hands in.
 ghost use Rattle.std.specs.Prelude.{◌≡◌, ℕ, ◌≤◌};
 ghost use Rattle.rates.specs.Checks.{table_check, kind_check, lattice_check};
-ghost use Rattle.rates.specs.Formulas.{width as width_of_lem, before as before_of};
+ghost use Rattle.rates.specs.Formulas.{width as width_of, before as before_of};
 ghost use Rattle.rates.specs.Kinds.{plain};
 ghost use Rattle.rates.specs.Refusals.{told, seen, lattice_refusal};
 
@@ -13,7 +13,7 @@ use rates::weights::{Triple, Weights};
 // The nodes of step `t`.
 pub(crate) fn width<W>(kind: &Kind<W>, t: usize) -> usize
     requires { t ≤ 64 }
-    ensures { result ≡ width_of_lem kind.now t }
+    ensures { result ≡ width_of kind.now t }
 {
     match kind {
         Kind::Binomial => t + 1,

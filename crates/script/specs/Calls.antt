@@ -1,7 +1,7 @@
 -- The call that the words of a line are.
---   form_of ws       the form that the first word names, or the first two, or what was expected in their place
+--   form_of ws      the form that the first word names, or the first two, or what was expected in their place
 --   meaning f ns    what a call of the form f says with the numbers ns
---   call_of ws       the call that the words are, or what was expected: asked in this order are the first word, the second
+--   call_of ws      the call that the words are, or what was expected: asked in this order are the first word, the second
 --                   where the name has two, the number of words, and whether all others are numbers
 -- Assumes nothing.
 use Rattle.std.specs.Prelude.{ℕ, ◌+◌, cond, List, [], length, drop, Some, None, Ok, Err, Option, Result, slice_index, slice_index_or}

@@ -5,8 +5,8 @@
 --   after f bs      the bytes behind it; none where there is none
 --   pieces f bs     what stands between the bytes that f holds of, in order; the last piece may lack such a byte behind it
 --   filled ps       those of the pieces that are not empty
---   lines_of text    its lines
---   words_of line    its words, up to the comment
+--   lines_of text   its lines
+--   words_of line   its words, up to the comment
 --   texts ws        what the references ws point to
 -- Assumes nothing.
 use Rattle.std.specs.Prelude.{ℕ, Bool, cond, ◌||◌, List, [], ◌∷◌, map, ◌==◌}

@@ -1,6 +1,6 @@
 -- The forms of calls.
 --   name_length f   how many words the name of the form f is
---   count_of f       how many numbers follow the name, not counting a lattice's rates
+--   count_of f      how many numbers follow the name, not counting a lattice's rates
 --   takes f n       whether n numbers may follow the name: as many as the form counts, and any more after a lattice
 -- Assumes nothing.
 use Rattle.std.specs.Prelude.{ℕ, Bool, ◌==◌, nat_le}

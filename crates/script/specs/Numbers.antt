@@ -1,5 +1,5 @@
 -- The numbers that words are.
---   number_of w      the number that the word w is: one decimal digit or more and nothing else, and below 2 ^ 32; none where
+--   number_of w     the number that the word w is: one decimal digit or more and nothing else, and below 2 ^ 32; none where
 --                   it is no such number
 --   numbers_of ws   the numbers that the words ws are; none where one of them is no number
 -- Assumes nothing.

@@ -1,5 +1,5 @@
 -- The script that a text is.
---   line_of b line       what a line says, where b tells whether a sheet is open: nothing where it has no words, a call, or
+--   line_of b line      what a line says, where b tells whether a sheet is open: nothing where it has no words, a call, or
 --                       what was expected. Whether a sheet is open is asked last, of what is a call otherwise
 --   script_from b n ls  what the lines ls say, the first of which has the number n: all calls in order, or the first fault
 --   script_of text      what the whole text says: its lines are numbered from 1, and no sheet is open before them

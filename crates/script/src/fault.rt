@@ -1,7 +1,7 @@
 // Why a script is refused.
 ghost use Rattle.std.specs.Prelude.{◌≡◌};
-ghost use Rattle.script.specs.declared.fault.LineError.TheVariants as inLine;
-ghost use Rattle.script.specs.declared.fault.ReadError.TheVariants as inScript;
+ghost use Rattle.script.specs.declared.fault.LineError.TheVariants as in_line;
+ghost use Rattle.script.specs.declared.fault.ReadError.TheVariants as in_script;
 ghost use Rattle.script.specs.Faults.{at_line};
 
 use crate::forms::Form;
@@ -44,7 +44,7 @@ pub enum ReadError {
 }
 
 impl From<Expected> for LineError {
-    ghost from_gives = { λ e r. r ≡ inLine.Fault e };
+    ghost from_gives = { λ e r. r ≡ in_line.Fault e };
 
     fn from(e: Expected) -> LineError {
         LineError::Fault(e)
@@ -52,7 +52,7 @@ impl From<Expected> for LineError {
 }
 
 impl From<AllocError> for LineError {
-    ghost from_gives = { λ _ r. r ≡ inLine.Memory };
+    ghost from_gives = { λ _ r. r ≡ in_line.Memory };
 
     fn from(_e: AllocError) -> LineError {
         LineError::Memory
@@ -60,7 +60,7 @@ impl From<AllocError> for LineError {
 }
 
 impl<T: Drop> From<AllocFailed<T>> for LineError {
-    ghost from_gives = { λ _ r. r ≡ inLine.Memory };
+    ghost from_gives = { λ _ r. r ≡ in_line.Memory };
 
     fn from(_e: AllocFailed<T>) -> LineError {
         LineError::Memory
@@ -68,7 +68,7 @@ impl<T: Drop> From<AllocFailed<T>> for LineError {
 }
 
 impl<T: Drop> From<AllocFailed<T>> for ReadError {
-    ghost from_gives = { λ _ r. r ≡ inScript.Memory };
+    ghost from_gives = { λ _ r. r ≡ in_script.Memory };
 
     fn from(_e: AllocFailed<T>) -> ReadError {
         ReadError::Memory
