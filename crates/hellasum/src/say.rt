@@ -9,6 +9,7 @@ fn layer_name(layer: Layer) -> &'static str {
     match layer {
         Layer::Lattice => "lattice",
         Layer::Sheet => "sheet",
+        Layer::Record => "record",
     }
 }
 

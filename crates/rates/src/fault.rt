@@ -7,6 +7,7 @@ ghost use Rattle.rates.specs.Refusals.{lattice_number, lattice_place};
 pub enum Layer {
     Lattice,
     Sheet,
+    Record,
 }
 
 #[derive(Clone, Copy, PartialEq, Eq)]

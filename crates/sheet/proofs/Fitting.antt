@@ -12,6 +12,7 @@ use Rattle.sheet.specs.Faults.{answer, unless}
 use Rattle.sheet.specs.Edits.{amount_fault, else_fault}
 use Rattle.sheet.specs.Fits.{greatest, fit_fault, fitted, Greatest}
 use Rattle.sheet.specs.Promises.{Fitted}
+use Rattle.sheet.proofs.Admitting.{spread_admitted}
 
 module _ (m : Model) (σ : ℕ → ℕ → ℕ) (b : Terms) (want : ℕ) where
   -- counted down from n
@@ -42,4 +43,5 @@ module _ (m : Model) (σ : ℕ → ℕ → ℕ) (want : ℕ) (s : State) where
         keeps = λ values marks st.
             let early = st.early in
             record { early = omega arith; worked = respread_keeps m σ s.spread spread s.first w s.terms values marks (omega arith) (omega arith) st.worked };
+        admits = spread_admitted m.steps s.terms s.spread spread g.allowed;
       }

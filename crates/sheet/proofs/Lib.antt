@@ -2,6 +2,7 @@ pub mod Tables
 pub mod Rolling
 pub mod Stepping
 pub mod Validity
+pub mod Admitting
 pub mod Standing
 pub mod Promised
 pub mod Worths

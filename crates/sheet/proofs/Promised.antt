@@ -14,10 +14,12 @@ use Rattle.sheet.specs.declared.fault.SheetFault.{SheetFault}
 use Rattle.sheet.specs.declared.fault.SheetFault.TheVariants.{Rows}
 use Rattle.sheet.specs.Faults.{sheet_refusal, tested, answer, unless}
 use Rattle.sheet.specs.Edits.{edited, edit_fault, else_fault}
+use Rattle.sheet.specs.Admits.{Admitted}
 use Rattle.sheet.specs.Calls.{rows_fault, large_fault, steps_back, back_fault, worked_back, values_after, marks_after}
 use Rattle.sheet.specs.Shared.{Standing}
 use Rattle.sheet.specs.Promises.{Edited, WorkedBack}
 use Rattle.sheet.proofs.Validity.{Valid, passed}
+use Rattle.sheet.proofs.Admitting.{edit_admits}
 use Rattle.sheet.proofs.Standing.{edit_stands, best_stored}
 
 pub tested_none : (o : Option SheetFault) → tested o ≡ Ok tt → o ≡ None
@@ -36,6 +38,7 @@ edit_made m σ e s s' n w last none is first =
       answers = ap accepted (first ∙ ap (λ (x : State). x.first) is') ∙ ap (λ o. answer o (edited m.steps s e).first) (sym none');
       leaves = is' ∙ ap (λ o. unless o (edited m.steps s e) s) (sym none');
       keeps = λ values marks st. subst (λ x. Standing m σ x values marks) (sym is') (edit_stands m σ s values marks e none' st);
+      admits = λ a. subst (λ x. Admitted m.steps x.terms x.spread) (sym is') (edit_admits m.steps s e none' a);
     }
 
 -- rows that pass are long enough

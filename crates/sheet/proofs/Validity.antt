@@ -64,7 +64,7 @@ spread_passed : (spread : ℕ) → spread_fault spread ≡ None → spread ≤ 2
 spread_passed spread e = leb-true spread 200000 (passed (leb spread 200000) None Spread e).0
 
 -- what holds of each place still holds after a write of what may stand there
-kept_by_set : {X : Type 0} (P : ℕ → X → Type 0) (xs : List X) (i : ℕ) (y d : X) → P i y → ((t : ℕ) → P t (get_or xs t d)) → (t : ℕ) → P t (get_or (set xs i y) t d)
+pub kept_by_set : {X : Type 0} (P : ℕ → X → Type 0) (xs : List X) (i : ℕ) (y d : X) → P i y → ((t : ℕ) → P t (get_or xs t d)) → (t : ℕ) → P t (get_or (set xs i y) t d)
 kept_by_set P [] i y d p h t = h t
 kept_by_set P (x ∷ xs) zero y d p h zero = p
 kept_by_set P (x ∷ xs) zero y d p h (suc t) = h (suc t)

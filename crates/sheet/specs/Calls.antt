@@ -4,9 +4,10 @@
 --   steps_back   how many steps are worked: those asked for, or all that are left
 --   worked_back  the state after it
 --   entry        the stored figure and mark of a node; read_fault why it is not answered
+--   adopt_fault  a draft that was made for another number of steps
 --   costs        what the calls cost the holder, and what the puts are worth to him, at the root
 -- Assumes nothing.
-use Rattle.std.specs.Prelude.{ℕ, ◌-◌, min, cond, ◌&&◌, List, length, Some, None, Option, nat_le, nat_lt}
+use Rattle.std.specs.Prelude.{ℕ, ◌-◌, min, cond, ◌&&◌, List, length, Some, None, Option, ◌==◌, nat_le, nat_lt}
 use Rattle.rates.specs.Model.{Model}
 use Rattle.game.specs.declared.terms.Kind.TheVariants.{Call, Put}
 use Rattle.game.specs.Game.{root, without}
@@ -51,6 +52,10 @@ read_fault m s values marks t j =
     cond (nat_le t m.steps)
     (else_fault (rows_fault m values marks) (cond (nat_le s.first t) (cond (nat_lt j (m.count t)) None (Some (NoNode j))) (Some (Unworked t))))
     (Some (Step t))
+
+-- n is the number of steps of the draft
+abbrev pub adopt_fault : Model → ℕ → Option SheetFault
+adopt_fault m n = cond (n == m.steps) None (Some (Step n))
 
 abbrev pub costs : Model → (ℕ → ℕ → ℕ) → State → Costs
 costs m σ s = record {

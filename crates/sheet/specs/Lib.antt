@@ -1,5 +1,6 @@
 pub mod Faults
 pub mod Edits
+pub mod Admits
 pub mod Calls
 pub mod Fits
 pub mod Prices

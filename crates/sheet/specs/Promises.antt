@@ -1,9 +1,11 @@
 -- What the calls of a sheet promise.
---   Edited        an edit: its answer, the state that it leaves, and that worked entries stay worked
+--   Edited        an edit: its answer, the state that it leaves, that worked entries stay worked, and that terms and a
+--                 spread that the edits accept leave such
+--   Adopted       the same of a draft put in force, whose terms and spread the edits accept
 --   WorkedBack    the same of working back, with its rows
 --   RootFigure    the figure of node 0 of step 0, as a value of best play
 --   Costed        the costs at the root, which are never below 0
---   Fitted        a fit: its answer, the state that it leaves, and that its spread is the greatest one
+--   Fitted        a fit: the same as an edit, and that its spread is the greatest one
 -- Assumes nothing.
 use Rattle.std.specs.Prelude.{◌≡◌, ℕ, ◌+◌, ◌-◌, ◌<◌, ◌≤◌, List, None, Result}
 use Rattle.rates.specs.Model.{Model}
@@ -17,7 +19,8 @@ use Rattle.sheet.specs.declared.edit.Edit.{Edit}
 use Rattle.sheet.specs.declared.fault.SheetFault.{SheetFault}
 use Rattle.sheet.specs.Faults.{sheet_refusal, answer, unless}
 use Rattle.sheet.specs.Edits.{edited, edit_fault}
-use Rattle.sheet.specs.Calls.{back_fault, worked_back, values_after, marks_after, costs}
+use Rattle.sheet.specs.Admits.{Admitted}
+use Rattle.sheet.specs.Calls.{adopt_fault, back_fault, worked_back, values_after, marks_after, costs}
 use Rattle.sheet.specs.Fits.{greatest, fit_fault, fitted, Greatest}
 use Rattle.sheet.specs.Shared.{Standing, BestStored}
 
@@ -25,6 +28,15 @@ pub record Edited (m : Model) (σ : ℕ → ℕ → ℕ) (e : Edit) (before : St
   pub answers : told sheet_refusal r ≡ answer (edit_fault m.steps before e) (edited m.steps before e).first
   pub leaves : after ≡ unless (edit_fault m.steps before e) (edited m.steps before e) before
   pub keeps : (values marks : List ℕ) → Standing m σ before values marks → Standing m σ after values marks
+  pub admits : Admitted m.steps before.terms before.spread → Admitted m.steps after.terms after.spread
+
+-- a draft of n steps, whose state is s
+pub record Adopted (m : Model) (σ : ℕ → ℕ → ℕ) (n : ℕ) (s before : State) (r : Result ℕ SheetFault) (after : State) : Type 0 where
+  pub answers : told sheet_refusal r ≡ answer (adopt_fault m n) s.first
+  pub leaves : after ≡ unless (adopt_fault m n) s before
+  pub keeps : (values marks : List ℕ) → Standing m σ before values marks → Standing m σ after values marks
+  pub accepted : adopt_fault m n ≡ None → Admitted m.steps after.terms after.spread
+  pub admits : Admitted m.steps before.terms before.spread → Admitted m.steps after.terms after.spread
 
 -- working back: its answer, the state, the value row and the mark row that it leaves, and that worked entries stay worked
 pub record WorkedBack (m : Model) (σ : ℕ → ℕ → ℕ) (n : ℕ) (before : State) (values marks : List ℕ) (r : Result ℕ SheetFault) (after : State) (values' marks' : List ℕ) : Type 0 where
@@ -52,3 +64,4 @@ pub record Fitted (m : Model) (σ : ℕ → ℕ → ℕ) (want : ℕ) (before : 
   pub leaves : after ≡ unless (fit_fault m σ before want) (fitted m σ before want) before
   pub is_greatest : fit_fault m σ before want ≡ None → Greatest m σ before.terms want (greatest m σ before.terms want 200000)
   pub keeps : (values marks : List ℕ) → Standing m σ before values marks → Standing m σ after values marks
+  pub admits : Admitted m.steps before.terms before.spread → Admitted m.steps after.terms after.spread

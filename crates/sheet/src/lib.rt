@@ -3,7 +3,8 @@
 
 pub mod answer;
 mod back;
-mod edit;
+pub mod draft;
+pub mod edit;
 pub mod fault;
 pub mod price;
 mod rows;
@@ -12,6 +13,8 @@ pub mod state;
 mod step;
 
 pub use answer::{Costs, Entry};
+pub use draft::Draft;
+pub use edit::Edit;
 pub use fault::SheetFault;
 pub use price::{Released, Struck};
 pub use sheet::Sheet;

@@ -2,6 +2,7 @@
 ghost use Rattle.std.specs.Prelude.{◌≡◌, ℕ, ◌≤◌, List};
 ghost use Rattle.game.specs.Limits.{Payable, Priced};
 ghost use Rattle.sheet.specs.Edits.{opened};
+ghost use Rattle.sheet.specs.Admits.{Admitted};
 ghost use Rattle.sheet.specs.Shared.{Standing};
 ghost use Rattle.sheet.specs.Promises.{Edited};
 
@@ -9,9 +10,9 @@ use crate::edit::Edit;
 use crate::fault::SheetFault;
 use crate::state::State;
 use game::clash::ClashRule;
-use game::terms::Terms;
 use lattice::Lattice;
 
+mod adopt;
 mod edits;
 mod fit;
 mod strike;
@@ -35,6 +36,7 @@ impl<L: Lattice, K: ClashRule> Sheet<L, K> {
     pub fn open(lattice: L, clash: K) -> Sheet<L, K>
         ensures state { result.state ≡ opened (L.Lattice.model lattice).steps }
         ensures stands { (values marks : List ℕ) → Standing (L.Lattice.model lattice) (K.ClashRule.settled clash) result.state values marks }
+        ensures admitted { Admitted (L.Lattice.model lattice).steps result.state.terms result.state.spread }
         ensures same { (result.lattice ≡ lattice) × (result.clash ≡ clash) }
     {
         Sheet::fresh(lattice, clash)
@@ -43,19 +45,10 @@ impl<L: Lattice, K: ClashRule> Sheet<L, K> {
     fn fresh(lattice: L, clash: K) -> Sheet<L, K>
         ensures state { result.state ≡ opened (L.Lattice.model lattice).steps }
         ensures stands { (values marks : List ℕ) → Standing (L.Lattice.model lattice) (K.ClashRule.settled clash) result.state values marks }
+        ensures admitted { Admitted (L.Lattice.model lattice).steps result.state.terms result.state.spread }
         ensures same { (result.lattice ≡ lattice) × (result.clash ≡ clash) }
     {
-        let terms = Terms {
-            redemption: 1_000_000,
-            coupons: [0; 65],
-            calls: [None; 64],
-            puts: [None; 64],
-        };
-        let state = State {
-            terms,
-            spread: 0,
-            first: lattice.steps() + 1,
-        };
+        let state = State::opened(lattice.steps());
         Sheet {
             lattice,
             clash,
@@ -70,7 +63,15 @@ impl<L: Lattice, K: ClashRule> Sheet<L, K> {
         self.state.first
     }
 
-    fn edit(&mut self, edit: Edit) -> Result<usize, SheetFault>
+    // Makes an edit; answers the first worked step after it.
+    pub fn edit(&mut self, edit: Edit) -> Result<usize, SheetFault>
+        ensures edited { Edited (L.Lattice.model self.old.lattice) (K.ClashRule.settled self.old.clash) edit self.old.state result self.new.state }
+        ensures same { (self.new.lattice ≡ self.old.lattice) × (self.new.clash ≡ self.old.clash) }
+    {
+        self.amend(edit)
+    }
+
+    fn amend(&mut self, edit: Edit) -> Result<usize, SheetFault>
         ensures edited { Edited (L.Lattice.model self.old.lattice) (K.ClashRule.settled self.old.clash) edit self.old.state result self.new.state }
         ensures same { (self.new.lattice ≡ self.old.lattice) × (self.new.clash ≡ self.old.clash) }
     {

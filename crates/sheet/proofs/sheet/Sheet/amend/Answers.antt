@@ -1,7 +1,7 @@
 use Rattle.std.proofs.Common.{sym, refl, ◌∙◌, subst, arith}
 use Rattle.sheet.proofs.Validity.{Valid, edited_valid}
 use Rattle.sheet.proofs.Promised.{tested_none, edit_made}
-use Rattle.sheet.proofs.sheet.Sheet.edit.Goals as goal
+use Rattle.sheet.proofs.sheet.Sheet.amend.Goals as goal
 
 pub invariant_of-self : goal.invariant_of-self
 invariant_of-self g c =

@@ -1,12 +1,11 @@
--- An edit that passes its tests leaves terms that the edits accept, and such terms keep to their limits. Assumes nothing.
-use Rattle.std.proofs.Common.{◌≡◌, ℕ, ◌+◌, ◌<◌, ◌≤◌, max, Bool, true, false, cond, eqb, leb, get_or, Some, None, Option, sym, refl, ap, ◌∙◌, subst, ⊎_elim, arith}
-use Rattle.std.proofs.lemmas.Bool.{false≢true, cases_Bool, cond-true, cond-false, cond_both, eqb-true, le-leb, and_from}
+-- An edit that passes its tests leaves terms that the edits accept. Assumes nothing.
+use Rattle.std.proofs.Common.{◌≡◌, ℕ, ◌+◌, ◌≤◌, true, eqb, leb, Some, None, Option, refl, ap, arith}
+use Rattle.std.proofs.lemmas.Bool.{false≢true, cond-true, cond_both, le-leb}
 use Rattle.game.specs.declared.terms.Right.{Right}
 use Rattle.game.specs.declared.terms.Terms.{Terms}
 use Rattle.game.specs.declared.terms.Kind.{Kind}
 use Rattle.game.specs.declared.terms.Kind.TheVariants.{Call, Put}
 use Rattle.game.specs.Game.{coupon, right}
-use Rattle.game.specs.Limits.{right_fits, Priced}
 use Rattle.game.proofs.Comparing.{all_same}
 use Rattle.sheet.specs.declared.state.State.{State}
 use Rattle.sheet.specs.declared.edit.Edit.{Edit}
@@ -15,7 +14,7 @@ use Rattle.sheet.specs.declared.fault.SheetFault.{SheetFault}
 use Rattle.sheet.specs.declared.fault.SheetFault.TheVariants.{Spread}
 use Rattle.sheet.specs.Edits.{opened, set_right, edited, edit_fault, amount_fault, coupon_fault, spread_fault}
 use Rattle.sheet.specs.Admits.{coupon_entry_fault, right_entry_fault, Admitted, clear, CouponsClear, RightsClear}
-use Rattle.sheet.proofs.Validity.{Valid, amount_passed, coupon_passed, right_passed, cancel_passed, spread_passed, kept_by_set}
+use Rattle.sheet.proofs.Validity.{coupon_passed, right_passed, cancel_passed, kept_by_set}
 
 -- the redemption, the coupons and the other rights are as they were
 module _ (n : ℕ) (b : Terms) (s t : ℕ) (r : Option Right) where
@@ -74,32 +73,6 @@ cleared n b s redeemable narrow payable priced = record {
   spread = clear_none _ narrow;
   coupons = λ t. clear_none _ (payable t);
   rights = λ kind t. clear_none _ (priced kind t);
-}
-
--- what stands at a step keeps to its limits
-small_coupon : (n t amount : ℕ) → coupon_entry_fault n t amount ≡ None → amount ≤ 10000000
-small_coupon n t amount e =
-    ⊎_elim
-    (λ (z : eqb amount 0 ≡ true). let zero : amount ≡ 0 = eqb-true amount 0 z in omega arith)
-    (λ (z : eqb amount 0 ≡ false). (coupon_passed n t amount (sym (cond-false (eqb amount 0) None (coupon_fault n t amount) z) ∙ e)).small)
-    (cases_Bool (eqb amount 0))
-
-fitting_right : (n t : ℕ) → n ≤ 64 → (o : Option Right) → right_entry_fault n t o ≡ None → right_fits t o ≡ true
-fitting_right n t few None e = refl
-fitting_right n t few (Some r) e =
-    let fits = right_passed n t r.price r.notice e in
-    let within = fits.within in
-    let paid = fits.paid in
-    let last : t + r.notice ≤ 64 = omega arith in
-    and_from (leb r.price 10000000) (leb (t + r.notice) 64) (le-leb r.price 10000000 fits.small) (le-leb (t + r.notice) 64 last)
-
-pub admitted_valid : (n : ℕ) (s : State) → n ≤ 64 → s.first ≡ n + 1 → Admitted n s.terms s.spread → Valid s
-admitted_valid n s few unworked a = record {
-  early = omega arith;
-  narrow = spread_passed s.spread a.spread;
-  redeemable = amount_passed 0 s.terms.redemption a.redemption;
-  payable = λ t. small_coupon n t (coupon s.terms t) (a.coupons t);
-  priced = λ kind t. fitting_right n t few (right s.terms kind t) (a.rights kind t);
 }
 
 -- an edit of a state of which nothing is worked leaves one
