@@ -1,0 +1,68 @@
+-- What load and save promise, from what their parts do.
+use Rattle.std.proofs.Common.{◌≡◌, ℕ, suc, ◌+◌, ◌<◌, ◌≤◌, true, false, cond, ltb, List, [], ◌∷◌, ◌++◌, length, get_or, drop, Some, None, Ok, Err, Result, sym, ap, ◌∙◌, zero-add, arith}
+use Rattle.std.proofs.lemmas.Bool.{lt-ltb, le-ltb, eq-eqb}
+use Rattle.rates.specs.Model.{Model}
+use Rattle.rates.specs.Refusals.{accepted, told}
+use Rattle.sheet.specs.declared.state.State.{State}
+use Rattle.sheet.specs.declared.fault.SheetFault.{SheetFault}
+use Rattle.sheet.specs.declared.fault.SheetFault.TheVariants.{Step}
+use Rattle.sheet.specs.Faults.{sheet_refusal, answer, unless}
+use Rattle.sheet.specs.Calls.{adopt_fault}
+use Rattle.sheet.specs.Promises.{Adopted}
+use Rattle.record.specs.declared.fault.RecordFault.{RecordFault}
+use Rattle.record.specs.declared.fault.RecordFault.TheVariants.{Output}
+use Rattle.record.specs.Cuts.{Wrote}
+use Rattle.record.specs.Faults.{record_refusal}
+use Rattle.record.specs.Encode.{encode}
+use Rattle.record.specs.Decode.{then, under, decode}
+use Rattle.record.specs.Promises.{Loaded, put_in_force, Saved}
+use Rattle.record.proofs.Listing.{Bytes}
+use Rattle.record.proofs.Whole.{decode_encode, encode_decode}
+
+module _ (s : State) (out : List ℕ) (coupons : length s.terms.coupons ≡ 65) (calls : length s.terms.calls ≡ 64) (puts : length s.terms.puts ≡ 64) (n : ℕ) where
+  abbrev bytes : List ℕ
+  bytes = encode s.terms s.spread
+
+  pub saved_not : {needed : ℕ} → needed ≡ length bytes → length out < needed → Saved n s out (Err (Output needed)) out
+  saved_not e h =
+      let short : ltb (length out) (length bytes) ≡ true = ap (ltb (length out)) (sym e) ∙ lt-ltb _ _ h in
+      record {
+        answers = ap (λ k. told {X = ℕ} record_refusal (Err (Output k))) e ∙ ap (λ b. told record_refusal (cond b (Err (Output (length bytes))) (Ok (length bytes)))) (sym short);
+        bytes = ap (λ b. cond b out (bytes ++ drop (length bytes) out)) (sym short);
+        loads_back = λ ok. decode_encode n s.terms s.spread ok coupons calls puts;
+      }
+
+  pub saved_whole : {needed : ℕ} (next : ℕ) (after : List ℕ) → needed ≡ length bytes → needed ≤ length out → Wrote bytes 0 out after next → Saved n s out (Ok next) after
+  saved_whole next after e h w =
+      let room : ltb (length out) (length bytes) ≡ false = ap (ltb (length out)) (sym e) ∙ le-ltb _ _ h in
+      record {
+        answers = ap (λ k. told record_refusal (Ok k)) (w.end ∙ zero-add (length bytes)) ∙ ap (λ b. told record_refusal (cond b (Err (Output (length bytes))) (Ok (length bytes)))) (sym room);
+        bytes = w.all ∙ ap (λ k. bytes ++ drop k out) (zero-add (length bytes)) ∙ ap (λ b. cond b out (bytes ++ drop (length bytes) out)) (sym room);
+        loads_back = λ ok. decode_encode n s.terms s.spread ok coupons calls puts;
+      }
+
+-- the numbers of a list of bytes
+pub bytes_from : (xs : List ℕ) → ((i : ℕ) → get_or xs i 0 < 256) → Bytes xs
+bytes_from [] h = tt
+bytes_from (x ∷ xs) h = (h 0, bytes_from xs (λ i. h (suc i)))
+
+-- a draft of as many steps, filled from a record and put in force
+module _ (m : Model) (σ : ℕ → ℕ → ℕ) (src : List ℕ) (before s : State) where
+  told_ok : (q : Result ℕ SheetFault) (w : ℕ) → told sheet_refusal q ≡ accepted w → q ≡ Ok w
+  told_ok (Ok x) w e = let z : x ≡ w = cc in ap (λ y. Ok y) z
+  told_ok (Err f) w e = absurd (let z : ◌≡◌ {A = ℕ} 0 1 = cc in omega arith)
+
+  pub loaded_whole : {k : ℕ} (q : Result ℕ SheetFault) {r : Result ℕ RecordFault} {after : State} → m.steps ≤ 64 → Bytes src → k ≡ m.steps → s.first ≡ k + 1 → decode m.steps src ≡ Ok (s.terms, s.spread) → Adopted m σ k s before q after → r ≡ under 0 q → Loaded m σ src before r after
+  loaded_whole {k} q {r} {after} few bytes n unworked dec a placed =
+      let first : s.first ≡ m.steps + 1 = unworked ∙ ap (λ x. x + 1) n in
+      let none : adopt_fault m k ≡ None = ap (λ b. cond b None (Some (Step k))) (eq-eqb k m.steps n) in
+      let ok = told_ok q s.first (a.answers ∙ ap (λ o. answer o s.first) none) in
+      let is = a.leaves ∙ ap (λ o. unless o s before) none in
+      record {
+        answers = ap (told record_refusal) (placed ∙ ap (under 0) ok) ∙ ap (λ w. told {F = RecordFault} record_refusal (Ok w)) first ∙ ap (λ d. told record_refusal (then d (λ _. Ok (m.steps + 1)))) (sym dec);
+        leaves = is ∙ ap (λ f. record { terms = s.terms; spread = s.spread; first = f }) first ∙ ap (λ d. put_in_force m.steps d before) (sym dec);
+        keeps = a.keeps;
+        accepted = λ _ _. a.accepted none;
+        admits = a.admits;
+        saves_back = λ w e. ap (λ t. encode t.terms t.spread) is ∙ encode_decode m.steps few src bytes (s.terms, s.spread) dec;
+      }

@@ -1,0 +1,17 @@
+use Rattle.std.proofs.Common.{sym, ap, ◌∙◌, arith}
+use Rattle.record.specs.Decode.{decode}
+use Rattle.record.proofs.Promised.{bytes_from, loaded_whole}
+use Rattle.record.proofs.loading.load_sheet.Goals as goal
+
+pub returns : goal.returns
+returns g c =
+    let s = c.args.sheet.now in
+    let m = g.L.Lattice.model s.lattice in
+    let draft = c.fill.new.draft in
+    let steps = c.fill.ensures.steps ∙ c.draft-draft.ensures.steps in
+    let bytes = bytes_from c.args.bytes.now (λ i. omega (arith, c.type_inv.bytes i)) in
+    let dec = ap (λ n. decode n c.args.bytes.now) (sym c.draft-draft.ensures.steps) ∙ sym c.in_ok-fill.ensures.filled in
+    record {
+      loaded = loaded_whole m (g.K.ClashRule.settled s.clash) c.args.bytes.now s.state draft.state c.adopt.result (g.L.Lattice.lawful s.lattice).few_steps bytes steps draft.unworked dec c.adopt.ensures.adopted c.at_place.ensures;
+      same = c.adopt.ensures.same;
+    }
