@@ -2,6 +2,7 @@
 ghost use Rattle.std.specs.Prelude.{◌≡◌, ℕ, ◌≤◌, List, length};
 ghost use Rattle.rates.specs.Refusals.{told, seen};
 ghost use Rattle.sheet.specs.Faults.{sheet_refusal};
+ghost use Rattle.sheet.specs.Admits.{Admitted};
 ghost use Rattle.sheet.specs.Shared.{Standing};
 ghost use Rattle.record.specs.Faults.{record_refusal};
 ghost use Rattle.session.specs.declared.call.Fault.TheVariants as fault;
@@ -99,6 +100,7 @@ pub(crate) fn perform<L: Lattice, K: ClashRule>(
     ensures leaves { shared sheet.new.state values.new marks.new output.new used.new ≡ left_by (L.Lattice.model sheet.old.lattice) (K.ClashRule.settled sheet.old.clash) call.now (shared sheet.old.state values.old marks.old output.old used.old) }
     ensures within { used.new ≤ length output.new }
     ensures keeps { Standing (L.Lattice.model sheet.old.lattice) (K.ClashRule.settled sheet.old.clash) sheet.old.state values.old marks.old → Standing (L.Lattice.model sheet.old.lattice) (K.ClashRule.settled sheet.old.clash) sheet.new.state values.new marks.new }
+    ensures admits { Admitted (L.Lattice.model sheet.old.lattice).steps sheet.old.state.terms sheet.old.state.spread → Admitted (L.Lattice.model sheet.old.lattice).steps sheet.new.state.terms sheet.new.state.spread }
     ensures same { (sheet.new.lattice ≡ sheet.old.lattice) × (sheet.new.clash ≡ sheet.old.clash) }
 {
     match call {

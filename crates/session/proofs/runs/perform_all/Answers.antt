@@ -1,12 +1,12 @@
-use Rattle.std.proofs.Common.{◌≡◌, ℕ, ◌+◌, ◌<◌, ◌≤◌, min, List, map, length, get_or, take, drop, set, Some, None, sym, refl, ap, ◌∙◌, subst, ⊎_elim, arith}
+use Rattle.std.proofs.Common.{◌≡◌, ℕ, ◌+◌, ◌<◌, ◌≤◌, map, length, get_or, take, drop, Some, sym, ap, ◌∙◌, subst, ⊎_elim, arith}
 use Rattle.std.proofs.lemmas.List.{length-set, length-take, take-take, drop-drop, drop-set-lt}
 use Rattle.std.proofs.lemmas.Bool.{cases_lt}
+use Rattle.sheet.specs.Admits.{Admitted}
 use Rattle.sheet.specs.Shared.{Standing}
 use Rattle.sheet.proofs.Standing.{best_stored}
 use Rattle.session.specs.Answers.{heard_in}
 use Rattle.session.specs.Runs.{Shared, shared, answered, after, run, answers}
-use Rattle.session.specs.Promises.{StrikesAreRoots}
-use Rattle.session.proofs.Running.{Stands, run_more, heard_more, strikes, roomy}
+use Rattle.session.proofs.Running.{Stands, Accepted, run_more, heard_more, strikes, roomy}
 use Rattle.session.proofs.runs.perform_all.Goals as goal
 
 pub loop-i-preserved : goal.loop-i-preserved
@@ -42,6 +42,9 @@ loop-i-preserved g c =
     let keeps : Stands m σ old → Stands m σ new =
     subst (λ l. Standing (model l) σ was.sheet.state was.values was.marks → Standing (model l) σ made.sheet.state made.values made.marks) h.4
     (subst (λ k. Standing (model was.sheet.lattice) (settled k) was.sheet.state was.values was.marks → Standing (model was.sheet.lattice) (settled k) made.sheet.state made.values made.marks) h.5 e.keeps) in
+    let admits : Accepted m σ old → Accepted m σ new =
+    subst (λ l. Admitted (model l).steps was.sheet.state.terms was.sheet.state.spread → Admitted (model l).steps made.sheet.state.terms made.sheet.state.spread) h.4 e.admits in
+    let accepted : Accepted m σ (run m σ (take (i + 1) calls) z) = subst (Accepted m σ) left (admits (subst (Accepted m σ) (sym h.0) h.8)) in
     let stands : Stands m σ (run m σ (take (i + 1) calls) z) = subst (Stands m σ) left (keeps (subst (Stands m σ) (sym h.0) (h.7 i (omega arith)))) in (
       left,
       heard_more m σ calls i _ z was.answers c.perform.result inside roomy h.1 said,
@@ -51,6 +54,7 @@ loop-i-preserved g c =
       e.same.1 ∙ h.5,
       e.within,
       λ k l. ⊎_elim (λ (b : k < i + 1). h.7 k (omega arith)) (λ (b : i + 1 ≤ k). let q : i + 1 ≡ k = omega arith in subst (λ n. Stands m σ (run m σ (take n calls) z)) q stands) (cases_lt k (i + 1)),
+      accepted,
     )
 
 pub returns : goal.returns
@@ -84,7 +88,7 @@ returns g c =
           marks_are = ap (λ (y : Shared). y.marks) left;
           output_is = ap (λ (y : Shared). y.output) left;
         };
-        terms_are_accepted = stands.admitted;
+        terms_are_accepted = subst (Accepted m σ) (sym h.0) h.8;
         stored_are_defined = stands.worked;
         marks_are_best_play = best_stored m σ end.sheet.state end.values end.marks laws fair stands;
         strikes_are_roots = strikes m σ laws done z end.answers said stood;

@@ -1,10 +1,10 @@
 use Rattle.std.proofs.Common.{◌≡◌, ℕ, ◌≤◌, map, length, take, drop, Some}
 use Rattle.session.specs.Answers.{heard_in}
 use Rattle.session.specs.Runs.{shared, run, answers}
-use Rattle.session.proofs.Running.{Stands}
+use Rattle.session.proofs.Running.{Stands, Accepted}
 use Rattle.session.proofs.runs.perform_all.Given as goal
 
--- the calls before the i-th are performed, and every state so far stands
+-- the calls before the i-th are performed, every state so far stands, and the edits accept its terms and spread
 abbrev pub invariant-loop-i : goal.invariant-loop-i
 invariant-loop-i g l =
     let m = g.L.Lattice.model l.initial.sheet.lattice in
@@ -18,3 +18,4 @@ invariant-loop-i g l =
     × (l.sheet.clash ≡ l.initial.sheet.clash)
     × (l.used ≤ length l.output)
     × ((k : ℕ) → k ≤ l.i → Stands m σ (run m σ (take k l.calls) z))
+    × Accepted m σ (run m σ (take l.i l.calls) z)

@@ -1,14 +1,15 @@
 -- One call more in a run, and what its answers say of struck prices. Assumes nothing.
-use Rattle.std.proofs.Common.{◌≡◌, ℕ, zero, suc, ◌+◌, ◌<◌, ◌≤◌, List, [], ◌∷◌, ◌++◌, map, length, get_or, take, drop, set, Some, None, Ok, Err, Option, Result, sym, refl, ap, ◌∙◌, subst, ⊎_elim, arith}
-use Rattle.std.proofs.lemmas.List.{take_more, take_more_set, take_all, get_or-take, length-take, map-append, drop-set-lt, drop-drop}
+use Rattle.std.proofs.Common.{◌≡◌, ℕ, zero, suc, ◌+◌, ◌<◌, ◌≤◌, List, [], ◌∷◌, ◌++◌, map, length, get_or, take, set, Some, None, Option, Result, sym, refl, ap, ◌∙◌, subst, ⊎_elim, arith}
+use Rattle.std.proofs.lemmas.List.{take_more, take_more_set, take_all, get_or-take, map-append}
 use Rattle.std.proofs.lemmas.Bool.{cases_lt}
 use Rattle.rates.specs.Model.{Model, Lawful}
 use Rattle.rates.specs.Refusals.{Told, accepted, refused, seen}
-use Rattle.game.specs.Game.{root}
 use Rattle.sheet.specs.declared.fault.SheetFault.{SheetFault}
 use Rattle.sheet.specs.declared.price.Struck.{Struck}
-use Rattle.sheet.specs.Faults.{answer}
+use Rattle.sheet.specs.declared.state.State.{State}
+use Rattle.sheet.specs.Faults.{answer, unless}
 use Rattle.sheet.specs.Prices.{strike_fault, struck}
+use Rattle.sheet.specs.Admits.{Admitted}
 use Rattle.sheet.specs.Shared.{Standing}
 use Rattle.sheet.proofs.Worths.{struck_root}
 use Rattle.session.specs.declared.call.Call.{Call}
@@ -17,8 +18,8 @@ use Rattle.session.specs.declared.call.Fault.{Fault}
 use Rattle.session.specs.declared.call.Reply.{Reply}
 use Rattle.session.specs.declared.call.Reply.TheVariants as reply
 use Rattle.session.specs.Answers.{heard, heard_in}
-use Rattle.session.specs.Runs.{Shared, shared, answered, after, run, answers}
-use Rattle.session.specs.Promises.{price, StrikesAreRoots}
+use Rattle.session.specs.Runs.{Shared, answered, after, run, answers}
+use Rattle.session.specs.Promises.{StrikesAreRoots}
 
 -- the reply of a call that does not strike is no price
 abbrev is_price : Reply → ℕ
@@ -44,6 +45,9 @@ price_struck (Some f) q p e = absurd (let z : ◌≡◌ {A = ℕ} 0 1 = ap told_
 module _ (m : Model) (σ : ℕ → ℕ → ℕ) where
   abbrev pub Stands : Shared → Type 0
   Stands z = Standing m σ z.state z.values z.marks
+
+  abbrev pub Accepted : Shared → Type 0
+  Accepted z = Admitted m.steps z.state.terms z.state.spread
 
   -- only a strike answers a price, and only one that is not refused
   struck_answer : (c : Call) (z : Shared) (p : Struck) → answered m σ c z ≡ accepted (reply.Struck p) → (strike_fault m z.state z.values ≡ None) × (p ≡ struck m z.state z.values)
@@ -103,6 +107,11 @@ module _ (m : Model) (σ : ℕ → ℕ → ℕ) where
       let q = struck_answer (get_or xs i Cost) y p said in
       let figure = struck_root laws σ y.state y.values y.marks (stood i (omega arith)) q.0 in
       q.1 ∙ ap (λ f. record { figure = f; spread = y.state.spread }) figure
+
+-- a state with the same terms and spread, or the one before
+pub left_admitted : (n w : ℕ) (o : Option SheetFault) (s : State) {s' : State} → s' ≡ unless o (record { terms = s.terms; spread = s.spread; first = w }) s → Admitted n s.terms s.spread → Admitted n s'.terms s'.spread
+left_admitted n w None s e a = subst (λ (x : State). Admitted n x.terms x.spread) (sym e) a
+left_admitted n w (Some f) s e a = subst (λ (x : State). Admitted n x.terms x.spread) (sym e) a
 
 -- as many calls as there is room for answers
 pub roomy : (xs : List Call) (room i : ℕ) → i ≤ length xs → i ≤ room → (i < length xs → room ≤ i) → take i xs ≡ take room xs

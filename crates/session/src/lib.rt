@@ -1,4 +1,6 @@
 // Calls in a list on one shared sheet.
+#![tactic(auto)]
+
 pub mod call;
 mod perform;
 pub mod runs;

@@ -1,4 +1,4 @@
-use Rattle.std.proofs.Common.{◌≡◌, ◌+◌, ◌-◌, ◌++◌, length, take, drop, ap, ◌∙◌, arith}
+use Rattle.std.proofs.Common.{◌≡◌, ◌+◌, ◌-◌, ◌++◌, take, drop, ap, ◌∙◌, arith}
 use Rattle.rates.specs.Refusals.{told, seen}
 use Rattle.record.specs.Faults.{record_refusal}
 use Rattle.record.specs.Promises.{save_answer, save_leaves}

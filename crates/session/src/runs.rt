@@ -1,5 +1,6 @@
 // A list of calls on a sheet that is opened for it.
 ghost use Rattle.std.specs.Prelude.{◌≡◌, length, take};
+ghost use Rattle.sheet.specs.Admits.{Admitted};
 ghost use Rattle.sheet.specs.Shared.{Standing};
 ghost use Rattle.session.specs.Runs.{shared, fresh};
 ghost use Rattle.session.specs.Promises.{BestPlayAfterAnyRun};
@@ -52,7 +53,8 @@ fn perform_all<L: Lattice, K: ClashRule>(
     answers: &mut [Option<Result<Reply, Fault>>],
     output: &mut [u8],
 )
-    requires { Standing (L.Lattice.model sheet.old.lattice) (K.ClashRule.settled sheet.old.clash) sheet.old.state values.old marks.old }
+    requires stands { Standing (L.Lattice.model sheet.old.lattice) (K.ClashRule.settled sheet.old.clash) sheet.old.state values.old marks.old }
+    requires admitted { Admitted (L.Lattice.model sheet.old.lattice).steps sheet.old.state.terms sheet.old.state.spread }
     ensures law { BestPlayAfterAnyRun (L.Lattice.model sheet.old.lattice) (K.ClashRule.settled sheet.old.clash) (take (length answers.old) calls.now) (shared sheet.old.state values.old marks.old output.old 0) answers.old answers.new sheet.new.state values.new marks.new output.new }
     ensures same { (sheet.new.lattice ≡ sheet.old.lattice) × (sheet.new.clash ≡ sheet.old.clash) }
 {
