@@ -1,7 +1,7 @@
 -- What the calls of a sheet promise.
 --   Edited        an edit: its answer, the state that it leaves, that worked entries stay worked, and that terms and a
---                 spread that the edits accept leave such
---   Adopted       the same of a draft put in force, whose terms and spread the edits accept
+--                 spread such as the edits accept stay such
+--   Adopted       the same of a draft put in force, whose own terms and spread are such
 --   WorkedBack    the same of working back, with its rows
 --   RootFigure    the figure of node 0 of step 0, as a value of best play
 --   Costed        the costs at the root, which are never below 0
