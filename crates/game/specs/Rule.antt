@@ -3,10 +3,12 @@
 --   mark_of       who exercises there
 --   play_of       its played value, where p says that the call plan has the node, q that the put plan has it
 --   mark_number   the byte that stands for a mark
+--   MarkRead      a byte is read as the mark that it stands for, or answered where it stands for none
 --   calls, puts   the bytes that are the issuer's marks, and the holder's
 -- Assumes nothing.
-use Rattle.std.specs.Prelude.{ℕ, Bool, cond, ◌||◌, Some, None, Option, ◌==◌, nat_lt}
+use Rattle.std.specs.Prelude.{◌≡◌, ℕ, ◌<◌, Bool, cond, ◌||◌, Some, None, Option, Result, MatchResult, ◌==◌, nat_lt}
 use Rattle.game.specs.declared.mark.Mark.{Mark}
+use Rattle.game.specs.declared.mark.NoMark.{NoMark}
 use Rattle.game.specs.declared.mark.Mark.TheVariants.{Neither, Call, Put, Both}
 
 abbrev pub figure_of : (ℕ → ℕ → ℕ) → Option ℕ → Option ℕ → ℕ → ℕ
@@ -32,6 +34,9 @@ mark_number Neither = 0
 mark_number Call = 1
 mark_number Put = 2
 mark_number Both = 3
+
+abbrev pub MarkRead : ℕ → Result Mark NoMark → Type 0
+MarkRead n r = MatchResult r (λ m. mark_number m ≡ n) (λ e. (e.0 ≡ n) × (3 < n))
 
 abbrev pub calls : ℕ → Bool
 calls n = n == 1 || n == 3

@@ -3,6 +3,8 @@ ghost use Rattle.std.specs.Prelude.{◌≡◌, ℕ};
 ghost use Rattle.game.specs.Clash.{Fair, put_prevails, put_fair, call_prevails, call_fair, halfway, halfway_fair};
 ghost use Rattle.game.specs.Rules.{rule_of, rule_fair};
 
+use std::fmt;
+
 pub trait ClashRule {
     // the amount, from the put amount and the call amount
     ghost settled: { Self → ℕ → ℕ → ℕ };
@@ -75,5 +77,15 @@ impl ClashRule for AnyClash {
             AnyClash::CallPrevails => CallPrevails.settle(put, call),
             AnyClash::Halfway => Halfway.settle(put, call),
         }
+    }
+}
+
+impl fmt::Display for AnyClash {
+    fn fmt<W: fmt::Write>(&self, f: &mut fmt::Formatter<W>) -> fmt::Result {
+        f.write_str(match self {
+            AnyClash::PutPrevails => "put",
+            AnyClash::CallPrevails => "call",
+            AnyClash::Halfway => "halfway",
+        })
     }
 }

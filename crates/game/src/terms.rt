@@ -2,11 +2,22 @@
 ghost use Rattle.std.specs.Prelude.{◌≡◌, None, slice_index_or};
 ghost use Rattle.game.specs.Game.{right as right_of};
 
+use std::fmt;
+
 // Which side a right belongs to: the issuer calls, the holder puts.
 #[derive(Clone, Copy, PartialEq, Eq)]
 pub enum Kind {
     Call,
     Put,
+}
+
+impl fmt::Display for Kind {
+    fn fmt<W: fmt::Write>(&self, f: &mut fmt::Formatter<W>) -> fmt::Result {
+        f.write_str(match self {
+            Kind::Call => "call",
+            Kind::Put => "put",
+        })
+    }
 }
 
 // A right to end the bond at a price that is paid `notice` steps later.
@@ -30,7 +41,7 @@ pub struct Terms {
 fn at(rights: &[Option<Right>; 64], t: usize) -> Option<Right>
     ensures { result ≡ slice_index_or rights.now t None }
 {
-    if t < 64 { rights[t] } else { None }
+    rights.get(t).copied().flatten()
 }
 
 impl Terms {

@@ -60,7 +60,7 @@ fn check_kind(kind: Kind<Triple>) -> Result<Kind<Weights>, LatticeFault>
 {
     match kind {
         Kind::Binomial => Ok(Kind::Binomial),
-        Kind::Trinomial(w) => Ok(Kind::Trinomial(Weights::new(w)?)),
-        Kind::WorstCase(v, w) => Ok(Kind::WorstCase(Weights::new(v)?, Weights::new(w)?)),
+        Kind::Trinomial(w) => Ok(Kind::Trinomial(w.try_into()?)),
+        Kind::WorstCase(v, w) => Ok(Kind::WorstCase(v.try_into()?, w.try_into()?)),
     }
 }

@@ -30,8 +30,8 @@ pub trait Lattice {
     fn roll_row(&self, t: usize, spread: u32, row: &[u32], out: &mut [u32])
         ensures { out.new ≡ map (λ j. (model self.now).rolled t j spread row.now) (range_with_len 0 (length out.old)) }
     {
-        for j in 0..out.len() {
-            out[j] = self.roll(t, j, spread, row);
+        for (j, figure) in out.iter_mut().enumerate() {
+            *figure = self.roll(t, j, spread, row);
         }
     }
 }

@@ -27,17 +27,22 @@ pub struct Tree<'a> {
 static FLAT: [u32; 1] = [0];
 
 impl<'a> Tree<'a> {
-    // Checks what a host hands in: the steps, the table, then the weights. Of what passes `new`
-    // makes the lattice as it stands.
-    pub fn check(
+    // The lattice that a host asks for, or why not: the steps are tested, the table, then the weights.
+    pub fn try_new(
         kind: Kind<Triple>,
         steps: usize,
-        rates: &[u32],
-    ) -> Result<Kind<Weights>, LatticeFault>
-        ensures told { seen plain (told lattice_refusal result) ≡ lattice_check kind steps rates.now }
-        ensures same { IfOk result (λ k. built (plain k) steps rates.now ≡ supplied kind steps rates.now) }
+        rates: &'a [u32],
+    ) -> Result<Tree<'a>, LatticeFault>
+        ensures told { seen (λ x. plain x.kind) (told lattice_refusal result) ≡ lattice_check kind steps rates.now }
+        ensures stands { IfOk result (λ x. supplied (plain x.kind) x.last x.rates.now ≡ supplied kind steps rates.now) }
+        ensures same { IfOk result (λ x. built (plain x.kind) steps rates.now ≡ supplied kind steps rates.now) }
     {
-        check_all(kind, steps, rates)
+        let kind = check_all(kind, steps, rates)?;
+        Ok(Tree {
+            kind,
+            last: steps,
+            rates,
+        })
     }
 
     // The lattice on a table; on a refused one, of one step and a rate of 0.

@@ -1,4 +1,3 @@
 pub mod Rounding
 pub mod Laws
-pub mod Overs
 pub mod Tables

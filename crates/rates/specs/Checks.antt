@@ -12,6 +12,7 @@
 --   built           what is made of any table
 -- Assumes nothing.
 use Rattle.std.specs.Prelude.{ℕ, ◌+◌, cond, ◌&&◌, List, [], ◌∷◌, length, Some, None, Option, ◌==◌, nat_le, nat_lt}
+use Rattle.std.specs.List.{position_from}
 use Rattle.rates.specs.Formulas.{before, supplied}
 use Rattle.rates.specs.Model.{Model}
 use Rattle.rates.specs.Refusals.{Told, accepted, refused, and_then, seen, lattice_refusal}
@@ -21,8 +22,7 @@ use Rattle.rates.specs.declared.kind.Kind.TheVariants.{Binomial, Trinomial, Wors
 use Rattle.rates.specs.declared.weights.Triple.{Triple}
 
 abbrev pub first_over : List ℕ → ℕ → Option ℕ
-first_over [] i = None
-first_over (x ∷ xs) i = cond (nat_lt 1000000 x) (Some i) (first_over xs (i + 1))
+first_over rates i = position_from (nat_lt 1000000) i rates
 
 abbrev pub steps_check : ℕ → Told Unit
 steps_check n = cond (nat_le 1 n && nat_le n 64) (accepted tt) (refused (lattice_refusal Steps))

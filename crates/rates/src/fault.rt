@@ -1,6 +1,9 @@
-// Why a rate table or its weights are refused.
-ghost use Rattle.std.specs.Prelude.{◌≡◌};
+// Why a call is refused: what a host is told of it, and the faults of a rate table and its weights.
+ghost use Rattle.std.specs.Prelude.{◌≡◌, ℕ};
 ghost use Rattle.rates.specs.Refusals.{lattice_number, lattice_place};
+ghost use Rattle.rates.specs.declared.fault.Place.{Place as PlaceOf};
+
+use std::fmt;
 
 // Whose fault it is.
 #[derive(Clone, Copy, PartialEq, Eq)]
@@ -10,10 +13,40 @@ pub enum Layer {
     Record,
 }
 
+impl fmt::Display for Layer {
+    fn fmt<W: fmt::Write>(&self, f: &mut fmt::Formatter<W>) -> fmt::Result {
+        f.write_str(match self {
+            Layer::Lattice => "lattice",
+            Layer::Sheet => "sheet",
+            Layer::Record => "record",
+        })
+    }
+}
+
 #[derive(Clone, Copy, PartialEq, Eq)]
 pub struct Place {
     pub at: usize,
     pub layer: Layer,
+}
+
+impl fmt::Display for Place {
+    fn fmt<W: fmt::Write>(&self, f: &mut fmt::Formatter<W>) -> fmt::Result {
+        let Place { at, layer } = self;
+        write!(f, "{at} {layer}")
+    }
+}
+
+// A ground on which a layer refuses a call, as a host is told of it.
+pub trait Ground {
+    ghost number_of: { Self → ℕ };
+
+    ghost place_of: { Self → PlaceOf };
+
+    fn number(&self) -> u32
+        ensures { result ≡ number_of self.now };
+
+    fn place(&self) -> Place
+        ensures { result ≡ place_of self.now };
 }
 
 #[derive(Clone, Copy, PartialEq, Eq)]
@@ -28,10 +61,12 @@ pub enum LatticeFault {
     Weights,
 }
 
-impl LatticeFault {
-    pub fn number(&self) -> u32
-        ensures { result ≡ lattice_number self.now }
-    {
+impl Ground for LatticeFault {
+    ghost number_of = { lattice_number };
+
+    ghost place_of = { lattice_place };
+
+    fn number(&self) -> u32 {
         match self {
             LatticeFault::Steps => 3,
             LatticeFault::Length(_) => 4,
@@ -40,9 +75,7 @@ impl LatticeFault {
         }
     }
 
-    pub fn place(&self) -> Place
-        ensures { result ≡ lattice_place self.now }
-    {
+    fn place(&self) -> Place {
         let at = match self {
             LatticeFault::Steps | LatticeFault::Weights => 0,
             LatticeFault::Length(want) => *want,

@@ -31,12 +31,7 @@ pub fn check_rates(want: usize, rates: &[u32]) -> Result<(), LatticeFault>
 fn first_over(rates: &[u32]) -> Option<usize>
     ensures { result ≡ first_over rates.now 0 }
 {
-    for (i, rate) in rates.iter().enumerate() {
-        if over(*rate) {
-            return Some(i);
-        }
-    }
-    None
+    rates.iter().position(|rate| over(*rate))
 }
 
 fn over(rate: u32) -> bool

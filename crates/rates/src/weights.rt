@@ -20,16 +20,20 @@ pub struct Weights {
     ghost whole: { parts.low + parts.level + parts.high ≡ 1000 },
 }
 
-impl Weights {
-    pub fn new(parts: Triple) -> Result<Weights, LatticeFault>
-        ensures { seen (λ w. w.parts) (told lattice_refusal result) ≡ weights_check parts }
-    {
+impl TryFrom<Triple> for Weights {
+    type Error = LatticeFault;
+
+    ghost try_from_gives = { λ parts r. seen (λ w. w.parts) (told lattice_refusal r) ≡ weights_check parts };
+
+    fn try_from(parts: Triple) -> Result<Weights, LatticeFault> {
         if u64::from(parts.low) + u64::from(parts.level) + u64::from(parts.high) != 1_000 {
             return Err(LatticeFault::Weights);
         }
         Ok(Weights { parts })
     }
+}
 
+impl Weights {
     pub fn parts(&self) -> Triple
         ensures { result ≡ self.now.parts }
     {
