@@ -6,7 +6,8 @@
 --   over           some entry is above 650,000,000
 --   too_large      the first of the n steps below w, downwards, with a figure above that
 -- Assumes nothing.
-use Rattle.std.specs.Prelude.{ℕ, zero, suc, ◌-◌, min, Bool, false, cond, ◌||◌, List, [], ◌∷◌, Some, None, Option, nat_le, nat_lt}
+use Rattle.std.specs.Prelude.{ℕ, zero, suc, ◌-◌, min, Bool, cond, List, Some, None, Option, nat_le, nat_lt}
+use Rattle.std.specs.List.{list_any}
 use Rattle.rates.specs.Model.{Model}
 use Rattle.game.specs.declared.terms.Terms.{Terms}
 use Rattle.game.specs.Game.{figure_from, mark_from}
@@ -31,8 +32,7 @@ abbrev pub back_marks : Model → (ℕ → ℕ → ℕ) → Terms → ℕ → �
 back_marks m σ b s w n values marks = rewritten m marks (back_mark m σ b s w values) (w - n) n
 
 abbrev pub over : List ℕ → Bool
-over [] = false
-over (x ∷ xs) = nat_lt 650000000 x || over xs
+over = list_any (nat_lt 650000000)
 
 abbrev pub too_large : Model → (ℕ → ℕ → ℕ) → ℕ → ℕ → Option ℕ
 too_large m figures w zero = None

@@ -8,3 +8,4 @@ pub mod Promised
 pub mod Worths
 pub mod Fitting
 pub mod Laid
+pub mod Valued

@@ -2,7 +2,7 @@
 ghost use Rattle.std.specs.Prelude.{◌≡◌};
 ghost use Rattle.sheet.specs.Faults.{sheet_number, sheet_place};
 
-use rates::fault::{Layer, Place};
+use rates::fault::{Ground, Layer, Place};
 
 #[derive(Clone, Copy, PartialEq, Eq)]
 pub enum SheetFault {
@@ -30,10 +30,12 @@ pub enum SheetFault {
     Wanted,
 }
 
-impl SheetFault {
-    pub fn number(&self) -> u32
-        ensures { result ≡ sheet_number self.now }
-    {
+impl Ground for SheetFault {
+    ghost number_of = { sheet_number };
+
+    ghost place_of = { sheet_place };
+
+    fn number(&self) -> u32 {
         match self {
             SheetFault::Output(_) => 1,
             SheetFault::Step(_) => 7,
@@ -49,9 +51,7 @@ impl SheetFault {
         }
     }
 
-    pub fn place(&self) -> Place
-        ensures { result ≡ sheet_place self.now }
-    {
+    fn place(&self) -> Place {
         let at = match self {
             SheetFault::Spread | SheetFault::Wanted => 0,
             SheetFault::Step(t)

@@ -11,6 +11,7 @@ mod rows;
 pub mod sheet;
 pub mod state;
 mod step;
+mod valuation;
 
 pub use answer::{Costs, Entry};
 pub use draft::Draft;

@@ -9,6 +9,7 @@ ghost use Rattle.sheet.specs.Promises.{Edited};
 use crate::edit::Edit;
 use crate::fault::SheetFault;
 use crate::state::State;
+use crate::valuation::Valuation;
 use game::clash::ClashRule;
 use lattice::Lattice;
 
@@ -53,6 +54,21 @@ impl<L: Lattice, K: ClashRule> Sheet<L, K> {
             lattice,
             clash,
             state,
+        }
+    }
+
+    // The terms in force, at the spread in force.
+    pub(crate) fn valuation(&self) -> Valuation<'_, L, K>
+        ensures lattice { result.lattice.now ≡ self.now.lattice }
+        ensures clash { result.clash.now ≡ self.now.clash }
+        ensures terms { result.terms.now ≡ self.now.state.terms }
+        ensures spread { result.spread ≡ self.now.state.spread }
+    {
+        Valuation {
+            lattice: &self.lattice,
+            clash: &self.clash,
+            terms: &self.state.terms,
+            spread: self.state.spread,
         }
     }
 

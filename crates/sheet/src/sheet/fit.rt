@@ -2,7 +2,6 @@
 ghost use Rattle.std.specs.Prelude.{◌≡◌};
 ghost use Rattle.sheet.specs.Promises.{Fitted};
 
-use crate::back;
 use crate::edit::check_amount;
 use crate::fault::SheetFault;
 use crate::sheet::Sheet;
@@ -23,10 +22,11 @@ impl<L: Lattice, K: ClashRule> Sheet<L, K> {
         ensures same { (self.new.lattice ≡ self.old.lattice) × (self.new.clash ≡ self.old.clash) }
     {
         check_amount(0, want)?;
-        if back::root_of(&self.lattice, &self.clash, &self.state.terms, 0) < want {
+        let valuation = self.valuation();
+        if valuation.at_spread(0).root() < want {
             return Err(SheetFault::Wanted);
         }
-        let spread = back::greatest_spread(&self.lattice, &self.clash, &self.state.terms, want);
+        let spread = valuation.greatest_spread(want);
         let last = self.lattice.steps();
         self.state.spread = spread;
         self.state.first = self.state.first.max(last);

@@ -52,18 +52,9 @@ impl<L: Lattice, K: ClashRule> Sheet<L, K> {
     {
         check_rows(&self.lattice, values, marks)?;
         let n = n.min(self.state.first);
-        if let Err(t) = back::work_back(
-            &self.lattice,
-            &self.clash,
-            &self.state.terms,
-            self.state.spread,
-            self.state.first,
-            n,
-            values,
-            marks,
-        ) {
-            return Err(SheetFault::TooLarge(t));
-        }
+        let first = self.state.first;
+        let valuation = self.valuation();
+        valuation.work_back(first, n, values, marks)?;
         self.state.first -= n;
         Ok(self.state.first)
     }

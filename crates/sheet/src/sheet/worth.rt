@@ -4,7 +4,6 @@ ghost use Rattle.game.specs.Game.{root};
 ghost use Rattle.sheet.specs.Promises.{RootFigure, Costed};
 
 use crate::answer::Costs;
-use crate::back;
 use crate::sheet::Sheet;
 use game::clash::ClashRule;
 use game::terms::Terms;
@@ -21,12 +20,7 @@ impl<L: Lattice, K: ClashRule> Sheet<L, K> {
     fn root(&self) -> u32
         ensures { RootFigure (L.Lattice.model self.now.lattice) (K.ClashRule.settled self.now.clash) self.now.state result }
     {
-        back::root_of(
-            &self.lattice,
-            &self.clash,
-            &self.state.terms,
-            self.state.spread,
-        )
+        self.valuation().root()
     }
 
     // What the calls cost the holder and what the puts are worth to him.
@@ -39,21 +33,19 @@ impl<L: Lattice, K: ClashRule> Sheet<L, K> {
     fn costs(&self) -> Costs
         ensures { Costed (L.Lattice.model self.now.lattice) (K.ClashRule.settled self.now.clash) self.now.state result }
     {
-        let terms = &self.state.terms;
-        let none = [None; 64];
+        let whole = self.valuation();
         let uncalled = Terms {
-            calls: none,
-            ..*terms
+            calls: [None; 64],
+            ..self.state.terms
         };
         let unput = Terms {
-            puts: none,
-            ..*terms
+            puts: [None; 64],
+            ..self.state.terms
         };
-        let spread = self.state.spread;
-        let root = back::root_of(&self.lattice, &self.clash, terms, spread);
+        let root = whole.root();
         Costs {
-            call: back::root_of(&self.lattice, &self.clash, &uncalled, spread) - root,
-            put: root - back::root_of(&self.lattice, &self.clash, &unput, spread),
+            call: whole.of_terms(&uncalled).root() - root,
+            put: root - whole.of_terms(&unput).root(),
         }
     }
 }

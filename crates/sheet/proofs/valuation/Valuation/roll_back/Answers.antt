@@ -3,23 +3,23 @@ use Rattle.std.specs.List.{range_with_len}
 use Rattle.std.proofs.lemmas.List.{places, take_at, length-map, length-take-le}
 use Rattle.game.proofs.Rows.{count_few}
 use Rattle.sheet.proofs.Rolling.{rolled_node}
-use Rattle.sheet.proofs.rows.roll_back.Goals as goal
+use Rattle.sheet.proofs.valuation.Valuation.roll_back.Goals as goal
 
 pub slice_bounds-next-end : goal.slice_bounds-next-end
-slice_bounds-next-end g c = let w : c.nodes-w.result ≤ 129 = omega (arith, count_few (g.L.Lattice.lawful c.args.lattice.now) (c.args.t + 1)) in search rules
+slice_bounds-next-end g c = let w : c.nodes-w.result ≤ 129 = omega (arith, count_few (g.L.Lattice.lawful c.args.self.now.lattice.now) (c.args.t + 1)) in search rules
 
 pub slice_bounds-roll_row-end : goal.slice_bounds-roll_row-end
-slice_bounds-roll_row-end g c = let w : c.nodes-w.result ≤ 129 = omega (arith, count_few (g.L.Lattice.lawful c.args.lattice.now) (c.args.t + 1)) in search (rules, places)
+slice_bounds-roll_row-end g c = let w : c.nodes-w.result ≤ 129 = omega (arith, count_few (g.L.Lattice.lawful c.args.self.now.lattice.now) (c.args.t + 1)) in search (rules, places)
 
 pub slice_bounds-roll_row-end-2 : goal.slice_bounds-roll_row-end-2
-slice_bounds-roll_row-end-2 g c = let n : c.nodes-n.result ≤ 129 = omega (arith, count_few (g.L.Lattice.lawful c.args.lattice.now) c.args.t) in search rules
+slice_bounds-roll_row-end-2 g c = let n : c.nodes-n.result ≤ 129 = omega (arith, count_few (g.L.Lattice.lawful c.args.self.now.lattice.now) c.args.t) in search rules
 
 pub returns : goal.returns
 returns g c =
-    let laws = g.L.Lattice.lawful c.args.lattice.now in
-    let m = g.L.Lattice.model c.args.lattice.now in
+    let laws = g.L.Lattice.lawful c.args.self.now.lattice.now in
+    let m = g.L.Lattice.model c.args.self.now.lattice.now in
     let t = c.args.t in
-    let s = c.args.spread in
+    let s = c.args.self.now.spread in
     let row = c.args.row.now in
     let added = c.add_coupon.new.row in
     let w = c.nodes-w.result - 0 in
@@ -31,4 +31,4 @@ returns g c =
     c.roll_row.ensures
     ∙ ap (λ xs. map (λ j. m.rolled t j s xs) (range_with_len 0 (length (take n row)))) (take_at added _ w long)
     ∙ ap (λ k. map (λ j. m.rolled t j s added) (range_with_len 0 k)) (length-take-le n row tall) in
-    rolled_node laws c.args.terms.now s t n w row added c.roll_row.new.out _ (omega arith) (omega arith) wide c.add_coupon.ensures out
+    rolled_node laws c.args.self.now.terms.now s t n w row added c.roll_row.new.out _ (omega arith) (omega arith) wide c.add_coupon.ensures out

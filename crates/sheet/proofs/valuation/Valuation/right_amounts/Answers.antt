@@ -3,27 +3,27 @@ use Rattle.std.proofs.lemmas.List.{get_or-replicate}
 use Rattle.game.specs.Game.{stream}
 use Rattle.game.proofs.Rolls.{roll_same}
 use Rattle.game.proofs.Rows.{count_few}
-use Rattle.sheet.proofs.rows.right_amounts.Goals as goal
+use Rattle.sheet.proofs.valuation.Valuation.right_amounts.Goals as goal
 
 pub loop-u-init : goal.loop-u-init
 loop-u-init g c = (
   omega arith,
   λ j h.
-      let m = g.L.Lattice.model c.args.lattice.now in
+      let m = g.L.Lattice.model c.args.self.now.lattice.now in
       let last = c.args.t + c.from.result in
-      let few : j < 129 = omega (arith, count_few (g.L.Lattice.lawful c.args.lattice.now) last) in
+      let few : j < 129 = omega (arith, count_few (g.L.Lattice.lawful c.args.self.now.lattice.now) last) in
       let e : 0 ≡ last - last = omega arith in
       get_or-replicate 129 j c.args.right.price 0 few
-      ∙ ap (λ k. stream m c.args.terms.now c.args.spread c.args.right.price k last j) e,
+      ∙ ap (λ k. stream m c.args.self.now.terms.now c.args.self.now.spread c.args.right.price k last j) e,
 )
 
 pub loop-u-preserved : goal.loop-u-preserved
 loop-u-preserved g c = (
   omega arith,
   λ j h.
-      let m = g.L.Lattice.model c.args.lattice.now in
-      let b = c.args.terms.now in
-      let s = c.args.spread in
+      let m = g.L.Lattice.model c.args.self.now.lattice.now in
+      let b = c.args.self.now.terms.now in
+      let s = c.args.self.now.spread in
       let x = c.args.right.price in
       let last = c.args.t + c.from.result in
       let u = c.loop-u.u in
@@ -37,10 +37,10 @@ loop-u-preserved g c = (
 
 pub returns : goal.returns
 returns g c = λ j h.
-    let m = g.L.Lattice.model c.args.lattice.now in
+    let m = g.L.Lattice.model c.args.self.now.lattice.now in
     let r = c.args.right in
     let at : c.loop-u.u ≡ c.args.t = omega (arith, c.loop-u.invariant.0) in
     let e : c.args.t + c.from.result - c.loop-u.u ≡ r.notice = omega arith in
     c.loop-u.invariant.1 j (omega (arith, ap m.count at))
-    ∙ ap (λ k. stream m c.args.terms.now c.args.spread r.price k c.loop-u.u j) e
-    ∙ ap (λ v. stream m c.args.terms.now c.args.spread r.price r.notice v j) at
+    ∙ ap (λ k. stream m c.args.self.now.terms.now c.args.self.now.spread r.price k c.loop-u.u j) e
+    ∙ ap (λ v. stream m c.args.self.now.terms.now c.args.self.now.spread r.price r.notice v j) at

@@ -1,0 +1,11 @@
+use Rattle.std.proofs.Common.{◌≡◌, ℕ, ◌<◌, ◌≤◌, get_or}
+use Rattle.game.specs.Rule.{figure_of, mark_of, mark_number}
+use Rattle.sheet.specs.Steps.{paid}
+use Rattle.sheet.proofs.valuation.Valuation.decide.Given as goal
+
+-- the nodes so far are decided, the others still have their values of going on
+abbrev pub invariant-loop-j : goal.invariant-loop-j
+invariant-loop-j g l =
+    ((k : ℕ) → k < l.j → get_or l.step.figures k 0 ≡ figure_of (g.K.ClashRule.settled l.self.clash.now) (paid l.puts k) (paid l.calls k) (get_or l.initial.step.figures k 0))
+    × ((k : ℕ) → k < l.j → get_or l.step.marks k 0 ≡ mark_number (mark_of (paid l.puts k) (paid l.calls k) (get_or l.initial.step.figures k 0)))
+    × ((k : ℕ) → l.j ≤ k → get_or l.step.figures k 0 ≡ get_or l.initial.step.figures k 0)
