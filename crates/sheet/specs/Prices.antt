@@ -4,7 +4,7 @@
 --   line           a price in print: figure, blank, spread, newline, in decimal
 --   print_fault    an output of fewer than 64 bytes
 --   printed        the output with the line in front, and all other bytes as they were
---   laid           bytes written over others from a place on
+--   laid           a part written over others from a place on
 -- Assumes nothing.
 use Rattle.std.specs.Prelude.{ℕ, ◌+◌, cond, List, [], ◌∷◌, ◌++◌, length, take, drop, Some, None, decimal, Option, nat_le}
 use Rattle.rates.specs.Model.{Model}
@@ -29,5 +29,5 @@ print_fault out = cond (nat_le 64 (length out)) None (Some (Output 64))
 abbrev pub printed : ℕ → ℕ → List ℕ → List ℕ
 printed figure spread out = line figure spread ++ drop (length (line figure spread)) out
 
-abbrev pub laid : List ℕ → ℕ → List ℕ → List ℕ
+abbrev pub laid : {X : Type 0} → List X → ℕ → List X → List X
 laid d at s = take at d ++ (s ++ drop (at + length s) d)

@@ -1,11 +1,12 @@
 // Steps worked one below another, into rows that list the nodes by step.
-ghost use Rattle.std.specs.Prelude.{◌≡◌, ℕ, ◌+◌, ◌-◌, ◌<◌, ◌≤◌, ◌++◌, length, take, drop, Ok, slice_index};
+ghost use Rattle.std.specs.Prelude.{◌≡◌, ℕ, ◌+◌, ◌-◌, ◌<◌, ◌≤◌, length, Ok, slice_index};
 ghost use Rattle.game.specs.Game.{root};
 ghost use Rattle.game.specs.Stored.{offset as offset_of, all_nodes, stored};
 ghost use Rattle.game.specs.Working.{back_values, back_marks, over};
 ghost use Rattle.sheet.specs.Fits.{Greatest};
 
 use crate::fault::SheetFault;
+use crate::laying::lay;
 use crate::step::Step;
 use crate::valuation::Valuation;
 use game::clash::ClashRule;
@@ -34,15 +35,6 @@ fn load<L: Lattice>(lattice: &L, t: usize, values: &[u32]) -> [u32; 129]
     let mut row = [0; 129];
     row[0..n].copy_from_slice(&values[from..from + n]);
     row
-}
-
-// Puts the entries of a step into a row, from place `from` on.
-fn store<T: Copy>(row: &mut [T], from: usize, step: &[T])
-    requires { from + length step.now ≤ length row.old }
-    ensures { row.new ≡ take from row.old ++ (step.now ++ drop (from + length step.now) row.old) }
-{
-    let to = from + step.len();
-    row[from..to].copy_from_slice(step);
 }
 
 // Some entry is above 650,000,000.
@@ -83,8 +75,8 @@ impl<L: Lattice, K: ClashRule> Valuation<'_, L, K> {
                 return Err(SheetFault::TooLarge(t));
             }
             let from = to - count;
-            store(values, from, &step.figures[0..count]);
-            store(marks, from, &step.marks[0..count]);
+            lay(values, from, &step.figures[0..count]);
+            lay(marks, from, &step.marks[0..count]);
             to = from;
         }
         Ok(())

@@ -6,6 +6,7 @@ mod back;
 pub mod draft;
 pub mod edit;
 pub mod fault;
+mod laying;
 pub mod price;
 mod rows;
 pub mod sheet;

@@ -1,10 +1,11 @@
 // Struck and released prices: only a struck price can be released, and only a released one prints.
-ghost use Rattle.std.specs.Prelude.{◌≡◌, ℕ, ◌+◌, ◌≤◌, length, decimal};
+ghost use Rattle.std.specs.Prelude.{◌≡◌, length};
 ghost use Rattle.rates.specs.Refusals.{told};
 ghost use Rattle.sheet.specs.Faults.{sheet_refusal, answer, unless};
-ghost use Rattle.sheet.specs.Prices.{line, print_fault, printed, laid};
+ghost use Rattle.sheet.specs.Prices.{line, print_fault, printed};
 
 use crate::fault::SheetFault;
+use crate::laying::lay;
 
 // A root figure and the spread in force when it was struck. Releasing takes it, so that it is released once.
 #[derive(Drop)]
@@ -37,22 +38,6 @@ impl Struck {
     }
 }
 
-// Writes a number in decimal from place `at` on, and answers the place after it.
-fn put_number(out: &mut [u8], at: usize, n: u32) -> usize
-    requires { at + length (decimal n) ≤ length out.old }
-    ensures place { result ≡ at + length (decimal n) }
-    ensures bytes { out.new ≡ laid out.old at (decimal n) }
-{
-    if n < 10 {
-        out[at] = 48 + n as u8;
-        at + 1
-    } else {
-        let next = put_number(out, at, n / 10);
-        out[next] = 48 + (n % 10) as u8;
-        next + 1
-    }
-}
-
 impl Released {
     // Writes figure, blank, spread and newline, and answers how many bytes these are.
     pub fn print(&self, out: &mut [u8]) -> Result<usize, SheetFault>
@@ -69,9 +54,10 @@ impl Released {
         if out.len() < 64 {
             return Err(SheetFault::Output(64));
         }
-        let blank = put_number(out, 0, self.figure);
+        let mut digits = itoa::Buffer::new();
+        let blank = lay(out, 0, digits.format(self.figure).as_bytes());
         out[blank] = b' ';
-        let end = put_number(out, blank + 1, self.spread);
+        let end = lay(out, blank + 1, digits.format(self.spread).as_bytes());
         out[end] = b'\n';
         Ok(end + 1)
     }

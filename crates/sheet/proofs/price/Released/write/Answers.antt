@@ -1,14 +1,15 @@
-use Rattle.std.proofs.Common.{◌≡◌, ℕ, ◌^◌, ◌<◌, ◌≤◌, true, leb, List, length, decimal, arith, length-set, rules}
+use Rattle.std.proofs.Common.{◌≡◌, ℕ, ◌+◌, ◌^◌, ◌<◌, ◌≤◌, true, leb, List, length, decimal, ap, ◌∙◌, set, arith, length-set, rules}
 use Rattle.std.proofs.lemmas.Fmt.{length-decimal-le}
 use Rattle.std.proofs.lemmas.Bool.{le-leb}
+use Rattle.sheet.specs.Prices.{laid}
 use Rattle.sheet.proofs.Laid.{two_words}
 use Rattle.sheet.proofs.price.Released.write.Goals as goal
 
 short : (n : ℕ) → n < 2 ^ 32 → length (decimal n) ≤ 10
 short n h = length-decimal-le 10 n (omega arith) (omega arith) (omega arith)
 
-pub put_number-blank-requires : goal.put_number-blank-requires
-put_number-blank-requires c = omega (arith, short c.args.self.now.figure (search rules))
+pub lay-blank-requires : goal.lay-blank-requires
+lay-blank-requires c = omega (arith, short c.args.self.now.figure (search rules))
 
 pub bounds-out-blank : goal.bounds-out-blank
 bounds-out-blank c = omega (arith, short c.args.self.now.figure (search rules))
@@ -16,11 +17,11 @@ bounds-out-blank c = omega (arith, short c.args.self.now.figure (search rules))
 pub overflow_add-blank : goal.overflow_add-blank
 overflow_add-blank c = omega (arith, short c.args.self.now.figure (search rules))
 
-pub put_number-end-requires : goal.put_number-end-requires
-put_number-end-requires c = simp length-set (omega (arith, short c.args.self.now.figure (search rules), short c.args.self.now.spread (search rules)))
+pub lay-end-requires : goal.lay-end-requires
+lay-end-requires c = simp length-set (omega (arith, short c.args.self.now.figure (search rules), short c.args.self.now.spread (search rules)))
 
 pub bounds-out-end : goal.bounds-out-end
-bounds-out-end c = let e = length-set c.put_number-blank.new.out c.put_number-blank.result 32 in omega (arith, short c.args.self.now.figure (search rules), short c.args.self.now.spread (search rules))
+bounds-out-end c = let e = length-set c.lay-blank.new.out c.lay-blank.result 32 in omega (arith, short c.args.self.now.figure (search rules), short c.args.self.now.spread (search rules))
 
 pub overflow_add-result : goal.overflow_add-result
 overflow_add-result c = omega (arith, short c.args.self.now.figure (search rules), short c.args.self.now.spread (search rules))
@@ -29,5 +30,12 @@ pub returns : goal.returns
 returns c =
     let d : List ℕ = c.args.out.now in
     let t : leb 64 (length d) ≡ true = le-leb _ _ (omega arith) in
-    let p = two_words d _ _ (decimal c.args.self.now.figure) (decimal c.args.self.now.spread) _ _ (short _ (search rules)) (short _ (search rules)) (omega arith) c.put_number-blank.ensures.bytes c.put_number-blank.ensures.place c.put_number-end.ensures.bytes c.put_number-end.ensures.place in
+    let x : ℕ = c.args.self.now.figure in
+    let y : ℕ = c.args.self.now.spread in
+    let f : c.as_bytes.result.now ≡ decimal x = cc in
+    let s : c.as_bytes-2.result.now ≡ decimal y = cc in
+    let a = c.lay-blank.ensures in
+    let b = c.lay-end.ensures in
+    let p = two_words d _ _ (decimal x) (decimal y) _ _ (short x (search rules)) (short y (search rules)) (omega arith)
+        (a.laid ∙ ap (laid d 0) f) (a.place ∙ ap (λ (z : List ℕ). 0 + length z) f) (b.laid ∙ ap (laid (set c.lay-blank.new.out c.lay-blank.result 32) (c.lay-blank.result + 1)) s) (b.place ∙ ap (λ (z : List ℕ). c.lay-blank.result + 1 + length z) s) in
     record { answers = rw (t, p.0); bytes = rw t p.1 }

@@ -52,8 +52,8 @@ overflow_sub-from g c =
     let up : c.loop-t.t ≡ c.loop-t.t - 1 + 1 = omega arith in
     omega (arith, offset_more m (c.loop-t.t - 1), ap (offset m) up)
 
-pub store-requires : goal.store-requires
-store-requires g c =
+pub lay-requires : goal.lay-requires
+lay-requires g c =
     let m = g.L.Lattice.model c.args.self.now.lattice.now in
     let laws = g.L.Lattice.lawful c.args.self.now.lattice.now in
     let u = c.loop-t.t in
@@ -61,8 +61,8 @@ store-requires g c =
     let up : u ≡ u - 1 + 1 = omega arith in
     omega (arith, length-take-le n c.work_step.new.step.figures (omega (arith, count_few laws (u - 1))), offset_top laws (u - 1), offset_more m (u - 1), ap (offset m) up)
 
-pub store-requires-in-loop-t : goal.store-requires-in-loop-t
-store-requires-in-loop-t g c =
+pub lay-requires-in-loop-t : goal.lay-requires-in-loop-t
+lay-requires-in-loop-t g c =
     let m = g.L.Lattice.model c.args.self.now.lattice.now in
     let laws = g.L.Lattice.lawful c.args.self.now.lattice.now in
     let u = c.loop-t.t in
@@ -98,10 +98,10 @@ loop-t-preserved g c =
       search rules,
       search rules,
       figures,
-      c.store.ensures
+      c.lay.ensures.laid
           ∙ rewritten_more m F v c.loop-t.values (take n c.work_step.new.step.figures) (u - 1) (w - u) (c.loop-t.to - c.nodes-count.result) long from (inv.5 ∙ ap (λ t. rewritten m v F t (w - u)) up) (front_is m F (u - 1) n c.work_step.new.step.figures (omega arith) (omega (arith, count_few laws (u - 1))) figures)
           ∙ ap (rewritten m v F (u - 1)) more,
-      c.store-in-loop-t.ensures
+      c.lay-in-loop-t.ensures.laid
           ∙ rewritten_more m G k c.loop-t.marks (take n c.work_step.new.step.marks) (u - 1) (w - u) (c.loop-t.to - c.nodes-count.result) wide from (inv.6 ∙ ap (λ t. rewritten m k G t (w - u)) up) (front_is m G (u - 1) n c.work_step.new.step.marks (omega arith) (omega (arith, count_few laws (u - 1))) marks)
           ∙ ap (rewritten m k G (u - 1)) more,
     )
