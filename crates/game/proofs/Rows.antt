@@ -1,6 +1,7 @@
 -- Where the entries of a step stand in a row, and what a rewritten row holds. Assumes nothing.
-use Rattle.std.proofs.Common.{◌≡◌, ℕ, zero, suc, ◌+◌, ◌-◌, ◌*◌, ◌<◌, ◌≤◌, List, ◌++◌, length, get_or, take, drop, sym, refl, ap, ◌∙◌, ⊎_elim, append_assoc, add-one, arith}
-use Rattle.std.proofs.lemmas.List.FromFn.{length-map-range_with_len, get_or-map-range_with_len}
+use Rattle.std.proofs.Common.{◌≡◌, ℕ, zero, suc, ◌+◌, ◌-◌, ◌*◌, ◌<◌, ◌≤◌, List, map, ◌++◌, length, get_or, take, drop, sym, refl, ap, ◌∙◌, ⊎_elim, append_assoc, add-one, arith}
+use Rattle.std.specs.List.{sum, range_with_len}
+use Rattle.std.proofs.lemmas.List.FromFn.{length-map-range_with_len, get_or-map-range_with_len, sum_by-map-range_with_len_more}
 use Rattle.std.proofs.lemmas.List.{length-append, length-take-le, get_or_append_left, get_or-append_right, get_or-drop, get_or-take, take-append-drop, take-append-le, take-take, drop_at}
 use Rattle.std.proofs.lemmas.Bool.{cases_lt, cases_order}
 use Rattle.rates.specs.Model.{Model, Lawful}
@@ -15,6 +16,14 @@ count_few {m} laws t = ⊎_elim (λ (l : m.steps < t). omega (arith, laws.no_nod
 pub offset_small : {m : Model} → Lawful m → (t : ℕ) → offset m t ≤ 129 * t
 offset_small {m} laws zero = omega arith
 offset_small {m} laws (suc t) = omega (arith, offset_small laws t, count_few laws t)
+
+-- the same as a sum over the steps before
+pub offset_sum : (m : Model) (t : ℕ) → sum (map m.count (range_with_len 0 t)) ≡ offset m t
+offset_sum m zero = refl
+offset_sum m (suc t) =
+    ap (λ n. sum (map m.count (range_with_len 0 n))) (sym (add-one t))
+    ∙ sum_by-map-range_with_len_more (λ x. x) m.count 0 t t (omega arith)
+    ∙ ap (λ n. n + m.count t) (offset_sum m t)
 
 pub offset_within : (m : Model) (t u : ℕ) → t < u → offset m t + m.count t ≤ offset m u
 offset_within m t zero h = absurd (omega arith)

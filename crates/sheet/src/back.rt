@@ -17,11 +17,7 @@ pub(crate) fn offset<L: Lattice>(lattice: &L, t: usize) -> usize
     requires { t ≤ 65 }
     ensures { result ≡ offset_of (L.Lattice.model lattice.now) t }
 {
-    let mut sum = 0;
-    for u in 0..t {
-        sum += lattice.nodes(u);
-    }
-    sum
+    (0..t).map(|u| lattice.nodes(u)).sum()
 }
 
 // The entries of step `t`.
