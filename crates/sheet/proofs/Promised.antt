@@ -62,6 +62,11 @@ place_within {m} laws values marks t j long h =
     let short = laws.few_steps in
     record { small = omega arith; in_values = omega (arith, room.0); in_marks = omega (arith, room.1) }
 
+-- what holds of a state holds of it after an edit, made or refused
+pub unless_keeps : {X : Type 0} (P : X → Type 0) (o : Option SheetFault) (new old : X) → (o ≡ None → P new) → P old → P (unless o new old)
+unless_keeps P None new old f p = f refl
+unless_keeps P (Some x) new old f p = p
+
 module _ (m : Model) (laws : Lawful m) (σ : ℕ → ℕ → ℕ) (fair : Fair σ) (n : ℕ) (s : State) (values marks : List ℕ) where
   -- short rows: nothing is done
   pub back_refused : (f : SheetFault) (r : Result ℕ SheetFault) → r ≡ Err f → Err f ≡ tested (rows_fault m values marks) → WorkedBack m σ n s values marks r s values marks

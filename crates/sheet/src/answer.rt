@@ -1,4 +1,5 @@
 // What the calls of a sheet answer.
+use std::fmt;
 
 // The stored figure of a node, and the byte of its mark.
 #[derive(Clone, Copy, PartialEq, Eq)]
@@ -7,9 +8,23 @@ pub struct Entry {
     pub mark: u8,
 }
 
+impl fmt::Display for Entry {
+    fn fmt<W: fmt::Write>(&self, f: &mut fmt::Formatter<W>) -> fmt::Result {
+        let Entry { figure, mark } = self;
+        write!(f, "figure {figure} mark {mark}")
+    }
+}
+
 // What the calls cost the holder, and what the puts are worth to him.
 #[derive(Clone, Copy, PartialEq, Eq)]
 pub struct Costs {
     pub call: u32,
     pub put: u32,
+}
+
+impl fmt::Display for Costs {
+    fn fmt<W: fmt::Write>(&self, f: &mut fmt::Formatter<W>) -> fmt::Result {
+        let Costs { call, put } = self;
+        write!(f, "call {call} put {put}")
+    }
 }

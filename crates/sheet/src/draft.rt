@@ -36,9 +36,6 @@ impl Draft {
         ensures leaves { self.new.state ≡ unless (edit_fault self.old.steps self.old.state edit) (edited self.old.steps self.old.state edit) self.old.state }
         ensures same { self.new.steps ≡ self.old.steps }
     {
-        let steps = self.steps;
-        edit.check(steps, &self.state)?;
-        self.state.apply(steps, edit);
-        Ok(())
+        self.state.amend(self.steps, edit)
     }
 }

@@ -1,6 +1,6 @@
 // Edits of a sheet: their tests, and what they set.
 ghost use Rattle.std.specs.Prelude.{◌≡◌, ℕ, ◌≤◌, None};
-ghost use Rattle.sheet.specs.Faults.{tested};
+ghost use Rattle.sheet.specs.Faults.{tested, unless};
 ghost use Rattle.sheet.specs.Edits.{amount_fault, coupon_fault, notice_fault, right_fault, cancel_fault, spread_fault, edit_fault, set_right, edited};
 
 use crate::fault::SheetFault;
@@ -63,10 +63,8 @@ fn check_cancel(last: usize, terms: &Terms, kind: Kind, t: usize) -> Result<(), 
     if t >= last {
         return Err(SheetFault::Step(t));
     }
-    match terms.right(kind, t) {
-        Some(_) => Ok(()),
-        None => Err(SheetFault::NoRight(t)),
-    }
+    terms.right(kind, t).ok_or(SheetFault::NoRight(t))?;
+    Ok(())
 }
 
 fn check_spread(spread: u32) -> Result<(), SheetFault>
@@ -80,7 +78,7 @@ fn check_spread(spread: u32) -> Result<(), SheetFault>
 
 impl Edit {
     // Whether the edit may be made on a lattice of `last` steps.
-    pub(crate) fn check(self, last: usize, state: &State) -> Result<(), SheetFault>
+    fn check(self, last: usize, state: &State) -> Result<(), SheetFault>
         ensures { result ≡ tested (edit_fault last state.now self) }
     {
         match self {
@@ -104,8 +102,19 @@ fn set_right(terms: &mut Terms, kind: Kind, t: usize, right: Option<Right>)
 }
 
 impl State {
+    // Makes an edit, on a lattice of `last` steps, unless its tests refuse it.
+    pub(crate) fn amend(&mut self, last: usize, edit: Edit) -> Result<(), SheetFault>
+        requires { last ≤ 64 }
+        ensures answers { result ≡ tested (edit_fault last self.old edit) }
+        ensures leaves { self.new ≡ unless (edit_fault last self.old edit) (edited last self.old edit) self.old }
+    {
+        edit.check(last, self)?;
+        self.apply(last, edit);
+        Ok(())
+    }
+
     // Makes an edit that was checked.
-    pub(crate) fn apply(&mut self, last: usize, edit: Edit)
+    fn apply(&mut self, last: usize, edit: Edit)
         requires few { last ≤ 64 }
         requires checked { edit_fault last self.old edit ≡ None }
         ensures { self.new ≡ edited last self.old edit }

@@ -92,8 +92,7 @@ impl<L: Lattice, K: ClashRule> Sheet<L, K> {
         ensures same { (self.new.lattice ≡ self.old.lattice) × (self.new.clash ≡ self.old.clash) }
     {
         let last = self.lattice.steps();
-        edit.check(last, &self.state)?;
-        self.state.apply(last, edit);
+        self.state.amend(last, edit)?;
         Ok(self.first_worked())
     }
 }

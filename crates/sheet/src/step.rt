@@ -35,17 +35,22 @@ impl<L: Lattice, K: ClashRule> Valuation<'_, L, K> {
     }
 
     // Decides each of the first `n` nodes: the step comes with the values of going on.
-    fn decide(&self, puts: &Option<[u32; 129]>, calls: &Option<[u32; 129]>, n: usize, step: &mut Step)
+    fn decide(
+        &self,
+        puts: &Option<[u32; 129]>,
+        calls: &Option<[u32; 129]>,
+        n: usize,
+        step: &mut Step,
+    )
         requires { n ≤ 129 }
         ensures figures { (j : ℕ) → j < n → slice_index step.new.figures j ≡ figure_of (K.ClashRule.settled self.now.clash.now) (paid puts.now j) (paid calls.now j) (slice_index step.old.figures j) }
         ensures marks { (j : ℕ) → j < n → slice_index step.new.marks j ≡ mark_number (mark_of (paid puts.now j) (paid calls.now j) (slice_index step.old.figures j)) }
     {
-        for j in 0..n {
-            let put = amount_at(puts, j);
-            let call = amount_at(calls, j);
-            let node = node::decide(self.clash, put, call, step.figures[j]);
-            step.figures[j] = node.figure;
-            step.marks[j] = node.mark.into();
+        let Step { figures, marks } = step;
+        for (j, figure) in figures[0..n].iter_mut().enumerate() {
+            let node = node::decide(self.clash, amount_at(puts, j), amount_at(calls, j), *figure);
+            *figure = node.figure;
+            marks[j] = node.mark.into();
         }
     }
 

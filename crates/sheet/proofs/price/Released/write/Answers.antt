@@ -37,5 +37,5 @@ returns c =
     let a = c.lay-blank.ensures in
     let b = c.lay-end.ensures in
     let p = two_words d _ _ (decimal x) (decimal y) _ _ (short x (search rules)) (short y (search rules)) (omega arith)
-        (a.laid ∙ ap (laid d 0) f) (a.place ∙ ap (λ (z : List ℕ). 0 + length z) f) (b.laid ∙ ap (laid (set c.lay-blank.new.out c.lay-blank.result 32) (c.lay-blank.result + 1)) s) (b.place ∙ ap (λ (z : List ℕ). c.lay-blank.result + 1 + length z) s) in
+    (a.laid ∙ ap (laid d 0) f) (a.place ∙ ap (λ (z : List ℕ). 0 + length z) f) (b.laid ∙ ap (laid (set c.lay-blank.new.out c.lay-blank.result 32) (c.lay-blank.result + 1)) s) (b.place ∙ ap (λ (z : List ℕ). c.lay-blank.result + 1 + length z) s) in
     record { answers = rw (t, p.0); bytes = rw t p.1 }

@@ -16,7 +16,7 @@ returns g c =
     let r = c.greatest_spread-spread.result in
     let u = c.at_spread.ensures in
     let e : c.root.result ≡ root m σ s.state.terms 0 =
-        c.root.ensures ∙ of_parts (λ l k b i. root (g.L.Lattice.model l) (g.K.ClashRule.settled k) b i) (u.lattice ∙ v.lattice) (u.clash ∙ v.clash) (u.terms ∙ v.terms) u.spread in
+    c.root.ensures ∙ of_parts (λ l k b i. root (g.L.Lattice.model l) (g.K.ClashRule.settled k) b i) (u.lattice ∙ v.lattice) (u.clash ∙ v.clash) (u.terms ∙ v.terms) u.spread in
     let reached : c.args.want ≤ root m σ s.state.terms 0 = omega arith in
     let top = with_parts (λ l k b. Greatest (g.L.Lattice.model l) (g.K.ClashRule.settled k) b c.args.want r) v.lattice v.clash v.terms c.greatest_spread-spread.ensures in
     record {
