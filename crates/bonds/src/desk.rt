@@ -78,17 +78,17 @@ impl<'a> Desk<'a> {
         let values = &mut self.values[0..lent.values.min(6)];
         let marks = &mut self.marks[0..lent.marks.min(6)];
         match ask {
-            Ask::Coupon(t, amount) => say::first_worked(rt, sheet.coupon(t, amount)),
-            Ask::Call(t, price, notice) => say::first_worked(rt, sheet.call(t, price, notice)),
-            Ask::Put(t, price, notice) => say::first_worked(rt, sheet.put(t, price, notice)),
-            Ask::Cancel(kind, t) => say::first_worked(rt, sheet.cancel(kind, t)),
-            Ask::Redeem(amount) => say::first_worked(rt, sheet.redeem(amount)),
-            Ask::Spread(spread) => say::first_worked(rt, sheet.spread(spread)),
-            Ask::Back(steps) => say::first_worked(rt, sheet.back(steps, values, marks)),
-            Ask::Read(t, j) => say::entry(rt, sheet.read(t, j, values, marks)),
-            Ask::Root => say::root(rt, sheet.root_figure()),
-            Ask::Cost => say::costs(rt, sheet.cost()),
-            Ask::Fit(price) => say::fitted(rt, sheet.fit(price)),
+            Ask::Coupon(t, amount) => say::answer(rt, "w ", sheet.coupon(t, amount)),
+            Ask::Call(t, price, notice) => say::answer(rt, "w ", sheet.call(t, price, notice)),
+            Ask::Put(t, price, notice) => say::answer(rt, "w ", sheet.put(t, price, notice)),
+            Ask::Cancel(kind, t) => say::answer(rt, "w ", sheet.cancel(kind, t)),
+            Ask::Redeem(amount) => say::answer(rt, "w ", sheet.redeem(amount)),
+            Ask::Spread(spread) => say::answer(rt, "w ", sheet.spread(spread)),
+            Ask::Back(steps) => say::answer(rt, "w ", sheet.back(steps, values, marks)),
+            Ask::Read(t, j) => say::answer(rt, "", sheet.read(t, j, values, marks)),
+            Ask::Root => print!(rt; "figure {}", sheet.root_figure()),
+            Ask::Cost => print!(rt; "{}", sheet.cost()),
+            Ask::Fit(price) => say::answer(rt, "spread ", sheet.fit(price)),
             Ask::Strike => say::struck(rt, sheet.strike(values)),
         }
     }

@@ -27,8 +27,7 @@ fn rolled(kind: Kind<Triple>, rate: u32) -> Result<u32, LatticeFault>
     ensures { IfOk result (λ x. x ≡ rolled_row (supplied kind) rate) }
 {
     let rates = [rate];
-    let kind = Tree::check(kind, 1, &rates)?;
-    let lattice = Tree::new(kind, 1, &rates);
+    let lattice = Tree::try_new(kind, 1, &rates)?;
     Ok(lattice.roll(0, 0, 0, &[100, 200, 400]))
 }
 

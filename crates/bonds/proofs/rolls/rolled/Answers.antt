@@ -5,4 +5,4 @@ use Rattle.bonds.proofs.rolls.rolled.Goals as goal
 pub returns : goal.returns
 returns c =
     c.roll.ensures
-    ∙ ap (λ (m : Model). m.rolled 0 0 0 (100 ∷ 200 ∷ 400 ∷ [])) (c.new-lattice.ensures ∙ c.in_ok-kind.ensures.same)
+    ∙ ap (λ (m : Model). m.rolled 0 0 0 (100 ∷ 200 ∷ 400 ∷ [])) c.in_ok-lattice.ensures.stands
