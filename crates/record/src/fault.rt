@@ -2,7 +2,7 @@
 ghost use Rattle.std.specs.Prelude.{◌≡◌};
 ghost use Rattle.record.specs.Faults.{record_number, record_place, sheet_place_of};
 
-use rates::fault::{Layer, Place};
+use rates::fault::{Ground, Layer, Place};
 use sheet::SheetFault;
 
 #[derive(Clone, Copy, PartialEq, Eq)]
@@ -19,10 +19,12 @@ pub enum RecordFault {
     Term(usize, SheetFault),
 }
 
-impl RecordFault {
-    pub fn number(&self) -> u32
-        ensures { result ≡ record_number self.now }
-    {
+impl Ground for RecordFault {
+    ghost number_of = { record_number };
+
+    ghost place_of = { record_place };
+
+    fn number(&self) -> u32 {
         match self {
             RecordFault::Output(_) => 1,
             RecordFault::Short(_) => 17,
@@ -32,9 +34,7 @@ impl RecordFault {
         }
     }
 
-    pub fn place(&self) -> Place
-        ensures { result ≡ record_place self.now }
-    {
+    fn place(&self) -> Place {
         let at = match self {
             RecordFault::Output(wanted) => *wanted,
             RecordFault::Short(length) => *length,
@@ -45,7 +45,9 @@ impl RecordFault {
             layer: Layer::Record,
         }
     }
+}
 
+impl RecordFault {
     // The sheet's own place, where the fault is the sheet's.
     pub fn sheet_place(&self) -> Option<Place>
         ensures { result ≡ sheet_place_of self.now }
