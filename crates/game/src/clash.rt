@@ -59,7 +59,7 @@ impl ClashRule for Halfway {
 }
 
 // One of the three, for hosts that choose at run time.
-#[derive(Clone, Copy, PartialEq, Eq)]
+#[derive(Clone, Copy, Debug, PartialEq, Eq)]
 pub enum AnyClash {
     PutPrevails,
     CallPrevails,

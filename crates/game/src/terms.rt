@@ -5,7 +5,7 @@ ghost use Rattle.game.specs.Game.{right as right_of};
 use std::fmt;
 
 // Which side a right belongs to: the issuer calls, the holder puts.
-#[derive(Clone, Copy, PartialEq, Eq)]
+#[derive(Clone, Copy, Debug, PartialEq, Eq)]
 pub enum Kind {
     Call,
     Put,

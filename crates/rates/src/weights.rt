@@ -6,7 +6,7 @@ ghost use Rattle.rates.specs.Refusals.{told, seen, lattice_refusal};
 use crate::fault::LatticeFault;
 
 // Three weights as a host hands them in.
-#[derive(Clone, Copy, PartialEq, Eq)]
+#[derive(Clone, Copy, Debug, PartialEq, Eq)]
 pub struct Triple {
     pub low: u32,
     pub level: u32,

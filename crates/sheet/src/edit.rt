@@ -7,7 +7,7 @@ use crate::fault::SheetFault;
 use crate::state::State;
 use game::terms::{Kind, Right, Terms};
 
-#[derive(Clone, Copy)]
+#[derive(Clone, Copy, Debug)]
 pub enum Edit {
     // the coupon of a step
     Coupon(usize, u32),
