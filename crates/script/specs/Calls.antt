@@ -5,11 +5,12 @@
 --                   where the name has two, the number of words, and whether all others are numbers
 -- Assumes nothing.
 use Rattle.std.specs.Prelude.{ℕ, ◌+◌, cond, List, [], length, drop, Some, None, Ok, Err, Option, Result, slice_index, slice_index_or}
-use Rattle.script.specs.declared.command.Shape.{Shape}
-use Rattle.script.specs.declared.command.Shape.TheVariants as shape
+use Rattle.rates.specs.declared.kind.Kind.{Kind}
+use Rattle.rates.specs.declared.kind.Kind.TheVariants as kind
+use Rattle.rates.specs.declared.weights.Triple.{Triple}
+use Rattle.sheet.specs.declared.edit.Edit.TheVariants as edit
 use Rattle.script.specs.declared.command.SheetCall.{SheetCall}
 use Rattle.script.specs.declared.command.SheetCall.TheVariants as call
-use Rattle.script.specs.declared.command.Weights.{Weights}
 use Rattle.script.specs.declared.fault.Expected.{Expected}
 use Rattle.script.specs.declared.fault.Expected.TheVariants as expected
 use Rattle.script.specs.declared.forms.Form.{Form}
@@ -17,7 +18,7 @@ use Rattle.script.specs.declared.forms.Form.TheVariants.{Lattice, Clash, Open, S
 use Rattle.script.specs.declared.forms.LatticeKind.{LatticeKind}
 use Rattle.script.specs.declared.forms.LatticeKind.TheVariants.{Binomial, Trinomial, Worst}
 use Rattle.script.specs.declared.forms.SheetForm.{SheetForm}
-use Rattle.script.specs.declared.forms.SheetForm.TheVariants.{Coupon, Call, Put, Cancel, Redeem, Spread, Back, Read, Cost, Fit, Strike, Table}
+use Rattle.script.specs.declared.forms.SheetForm.TheVariants.{Coupon, Enter, Cancel, Redeem, Spread, Back, Read, Cost, Fit, Strike, Table}
 use Rattle.script.specs.declared.names.Opening.{Opening}
 use Rattle.script.specs.declared.names.Opening.TheVariants as opening
 use Rattle.script.specs.Commands.{Meaning, lattice, clash, opened, sheet}
@@ -41,21 +42,20 @@ form_from (Some opening.Cancel) w = completed (λ r. Sheet (Cancel r)) expected.
 abbrev pub form_of : List (List ℕ) → Result Form Expected
 form_of ws = form_from (named opening_names (slice_index_or ws 0 [])) (slice_index_or ws 1 [])
 
-abbrev pub weights_at : List ℕ → ℕ → Weights
-weights_at ns i = record { p = slice_index ns i; q = slice_index ns (i + 1); u = slice_index ns (i + 2) }
+abbrev pub weights_at : List ℕ → ℕ → Triple
+weights_at ns i = record { low = slice_index ns i; level = slice_index ns (i + 1); high = slice_index ns (i + 2) }
 
-abbrev pub shape_of : LatticeKind → List ℕ → Shape
-shape_of Binomial ns = shape.Binomial
-shape_of Trinomial ns = shape.Trinomial (weights_at ns 1)
-shape_of Worst ns = shape.Worst (weights_at ns 1) (weights_at ns 4)
+abbrev pub kind_of : LatticeKind → List ℕ → Kind Triple
+kind_of Binomial ns = kind.Binomial
+kind_of Trinomial ns = kind.Trinomial (weights_at ns 1)
+kind_of Worst ns = kind.WorstCase (weights_at ns 1) (weights_at ns 4)
 
 abbrev pub sheet_call : SheetForm → List ℕ → SheetCall
-sheet_call Coupon ns = call.Coupon (slice_index ns 0) (slice_index ns 1)
-sheet_call Call ns = call.Call (slice_index ns 0) (slice_index ns 1) (slice_index ns 2)
-sheet_call Put ns = call.Put (slice_index ns 0) (slice_index ns 1) (slice_index ns 2)
-sheet_call (Cancel r) ns = call.Cancel r (slice_index ns 0)
-sheet_call Redeem ns = call.Redeem (slice_index ns 0)
-sheet_call Spread ns = call.Spread (slice_index ns 0)
+sheet_call Coupon ns = call.Edit (edit.Coupon (slice_index ns 0) (slice_index ns 1))
+sheet_call (Enter r) ns = call.Edit (edit.Enter r (slice_index ns 0) (slice_index ns 1) (slice_index ns 2))
+sheet_call (Cancel r) ns = call.Edit (edit.Cancel r (slice_index ns 0))
+sheet_call Redeem ns = call.Edit (edit.Redeem (slice_index ns 0))
+sheet_call Spread ns = call.Edit (edit.Spread (slice_index ns 0))
 sheet_call Back ns = call.Back (slice_index ns 0)
 sheet_call Read ns = call.Read (slice_index ns 0) (slice_index ns 1)
 sheet_call Cost ns = call.Cost
@@ -65,7 +65,7 @@ sheet_call Table ns = call.Table
 
 -- what a form says with its numbers
 abbrev pub meaning : Form → List ℕ → Meaning
-meaning (Lattice k) ns = lattice (shape_of k ns) (slice_index ns 0) (drop (lattice_count k) ns)
+meaning (Lattice k) ns = lattice (kind_of k ns) (slice_index ns 0) (drop (lattice_count k) ns)
 meaning (Clash r) ns = clash r
 meaning Open ns = opened
 meaning (Sheet s) ns = sheet (sheet_call s ns)

@@ -9,13 +9,12 @@ use Rattle.script.specs.declared.forms.Form.TheVariants.{Lattice, Clash, Open, S
 use Rattle.script.specs.declared.forms.LatticeKind.{LatticeKind}
 use Rattle.script.specs.declared.forms.LatticeKind.TheVariants.{Binomial, Trinomial, Worst}
 use Rattle.script.specs.declared.forms.SheetForm.{SheetForm}
-use Rattle.script.specs.declared.forms.SheetForm.TheVariants.{Coupon, Call, Put, Cancel, Redeem, Spread, Back, Read, Cost, Fit, Strike, Table}
+use Rattle.script.specs.declared.forms.SheetForm.TheVariants.{Coupon, Enter, Cancel, Redeem, Spread, Back, Read, Cost, Fit, Strike, Table}
 
 abbrev pub sheet_name_length : SheetForm → ℕ
 sheet_name_length (Cancel r) = 2
 sheet_name_length Coupon = 1
-sheet_name_length Call = 1
-sheet_name_length Put = 1
+sheet_name_length (Enter r) = 1
 sheet_name_length Redeem = 1
 sheet_name_length Spread = 1
 sheet_name_length Back = 1
@@ -38,8 +37,7 @@ lattice_count Worst = 7
 
 abbrev pub sheet_count : SheetForm → ℕ
 sheet_count Coupon = 2
-sheet_count Call = 3
-sheet_count Put = 3
+sheet_count (Enter r) = 3
 sheet_count (Cancel r) = 1
 sheet_count Redeem = 1
 sheet_count Spread = 1

@@ -8,10 +8,10 @@
 use Rattle.std.specs.Prelude.{ℕ, cond, List, [], ◌∷◌, Some, None, codes, Option}
 use Rattle.std.specs.Borrow.{Bor}
 use Rattle.std.specs.Str.{bytes_eq}
-use Rattle.script.specs.declared.command.ClashRule.{ClashRule}
-use Rattle.script.specs.declared.command.ClashRule.TheVariants as clash
-use Rattle.script.specs.declared.command.Right.{Right}
-use Rattle.script.specs.declared.command.Right.TheVariants as right
+use Rattle.game.specs.declared.clash.AnyClash.{AnyClash}
+use Rattle.game.specs.declared.clash.AnyClash.TheVariants as clash
+use Rattle.game.specs.declared.terms.Kind.{Kind}
+use Rattle.game.specs.declared.terms.Kind.TheVariants as right
 use Rattle.script.specs.declared.forms.LatticeKind.{LatticeKind}
 use Rattle.script.specs.declared.forms.LatticeKind.TheVariants as kind
 use Rattle.script.specs.declared.forms.Form.TheVariants as form
@@ -33,10 +33,10 @@ spelled (e ∷ es) = (e.0.now, e.1) ∷ spelled es
 abbrev pub lattice_names : Names LatticeKind
 lattice_names = (codes "binomial", kind.Binomial) ∷ (codes "trinomial", kind.Trinomial) ∷ (codes "worst", kind.Worst) ∷ []
 
-abbrev pub clash_names : Names ClashRule
-clash_names = (codes "put", clash.Put) ∷ (codes "call", clash.Call) ∷ (codes "halfway", clash.Halfway) ∷ []
+abbrev pub clash_names : Names AnyClash
+clash_names = (codes "put", clash.PutPrevails) ∷ (codes "call", clash.CallPrevails) ∷ (codes "halfway", clash.Halfway) ∷ []
 
-abbrev pub right_names : Names Right
+abbrev pub right_names : Names Kind
 right_names = (codes "call", right.Call) ∷ (codes "put", right.Put) ∷ []
 
 abbrev pub opening_names : Names Opening
@@ -46,8 +46,8 @@ opening_names =
     ∷ (codes "cancel", opening.Cancel)
     ∷ (codes "open", opening.Whole form.Open)
     ∷ (codes "coupon", opening.Whole (form.Sheet sheet.Coupon))
-    ∷ (codes "call", opening.Whole (form.Sheet sheet.Call))
-    ∷ (codes "put", opening.Whole (form.Sheet sheet.Put))
+    ∷ (codes "call", opening.Whole (form.Sheet (sheet.Enter right.Call)))
+    ∷ (codes "put", opening.Whole (form.Sheet (sheet.Enter right.Put)))
     ∷ (codes "redeem", opening.Whole (form.Sheet sheet.Redeem))
     ∷ (codes "spread", opening.Whole (form.Sheet sheet.Spread))
     ∷ (codes "back", opening.Whole (form.Sheet sheet.Back))

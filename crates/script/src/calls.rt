@@ -2,19 +2,22 @@
 ghost use Rattle.std.specs.Prelude.{◌≡◌, ◌+◌, ◌≤◌, [], length, drop, IfOk, slice_index_or};
 ghost use Rattle.std.specs.Option.{ok_or};
 ghost use Rattle.script.specs.declared.fault.Expected.TheVariants as expected;
-ghost use Rattle.script.specs.Calls.{call_of, form_of, meaning, shape_of, sheet_call, weights_at};
+ghost use Rattle.script.specs.Calls.{call_of, form_of, kind_of, meaning, sheet_call, weights_at};
 ghost use Rattle.script.specs.Commands.{meant};
 ghost use Rattle.script.specs.Cuts.{texts};
 ghost use Rattle.script.specs.Faults.{Gives};
 ghost use Rattle.script.specs.Forms.{lattice_count, sheet_count, count_of};
 ghost use Rattle.script.specs.Numbers.{numbers_of};
 
-use crate::command::{Command, Shape, SheetCall, Weights};
+use crate::command::{Command, SheetCall};
 use crate::fault::{Expected, LineError};
 use crate::forms::{Form, LatticeKind, SheetForm};
 use crate::names;
 use crate::names::Opening;
 use crate::numbers::number;
+use rates::kind::Kind;
+use rates::weights::Triple;
+use sheet::Edit;
 use std::alloc::{AllocError, Global};
 
 // The word at a place; the empty word, which is no name, past the end.
@@ -54,25 +57,25 @@ fn form_of(words: &[&[u8]]) -> Result<Form, Expected>
     }
 }
 
-fn weights_at(numbers: &[u32], i: usize) -> Weights
+fn weights_at(numbers: &[u32], i: usize) -> Triple
     requires { i + 3 ≤ length numbers.now }
     ensures { result ≡ weights_at numbers.now i }
 {
-    Weights {
-        p: numbers[i],
-        q: numbers[i + 1],
-        u: numbers[i + 2],
+    Triple {
+        low: numbers[i],
+        level: numbers[i + 1],
+        high: numbers[i + 2],
     }
 }
 
-fn shape_of(kind: LatticeKind, numbers: &[u32]) -> Shape
+fn kind_of(kind: LatticeKind, numbers: &[u32]) -> Kind<Triple>
     requires { lattice_count kind ≤ length numbers.now }
-    ensures { result ≡ shape_of kind numbers.now }
+    ensures { result ≡ kind_of kind numbers.now }
 {
     match kind {
-        LatticeKind::Binomial => Shape::Binomial,
-        LatticeKind::Trinomial => Shape::Trinomial(weights_at(numbers, 1)),
-        LatticeKind::Worst => Shape::Worst(weights_at(numbers, 1), weights_at(numbers, 4)),
+        LatticeKind::Binomial => Kind::Binomial,
+        LatticeKind::Trinomial => Kind::Trinomial(weights_at(numbers, 1)),
+        LatticeKind::Worst => Kind::WorstCase(weights_at(numbers, 1), weights_at(numbers, 4)),
     }
 }
 
@@ -81,30 +84,22 @@ fn sheet_call(form: SheetForm, numbers: &[u32]) -> SheetCall
     ensures { result ≡ sheet_call form numbers.now }
 {
     match form {
-        SheetForm::Coupon => SheetCall::Coupon {
-            step: numbers[0],
-            amount: numbers[1],
-        },
-        SheetForm::Call => SheetCall::Call {
-            step: numbers[0],
-            price: numbers[1],
-            notice: numbers[2],
-        },
-        SheetForm::Put => SheetCall::Put {
-            step: numbers[0],
-            price: numbers[1],
-            notice: numbers[2],
-        },
-        SheetForm::Cancel(right) => SheetCall::Cancel {
+        SheetForm::Coupon => SheetCall::Edit(Edit::Coupon(numbers[0] as usize, numbers[1])),
+        SheetForm::Enter(right) => SheetCall::Edit(Edit::Enter(
             right,
-            step: numbers[0],
+            numbers[0] as usize,
+            numbers[1],
+            numbers[2] as usize,
+        )),
+        SheetForm::Cancel(right) => SheetCall::Edit(Edit::Cancel(right, numbers[0] as usize)),
+        SheetForm::Redeem => SheetCall::Edit(Edit::Redeem(numbers[0])),
+        SheetForm::Spread => SheetCall::Edit(Edit::Spread(numbers[0])),
+        SheetForm::Back => SheetCall::Back {
+            steps: numbers[0] as usize,
         },
-        SheetForm::Redeem => SheetCall::Redeem { amount: numbers[0] },
-        SheetForm::Spread => SheetCall::Spread { spread: numbers[0] },
-        SheetForm::Back => SheetCall::Back { steps: numbers[0] },
         SheetForm::Read => SheetCall::Read {
-            step: numbers[0],
-            node: numbers[1],
+            step: numbers[0] as usize,
+            node: numbers[1] as usize,
         },
         SheetForm::Cost => SheetCall::Cost,
         SheetForm::Fit => SheetCall::Fit { price: numbers[0] },
@@ -122,8 +117,8 @@ fn command_of(heap: Global, form: Form, numbers: &[u32]) -> Result<Command, Allo
         Form::Lattice(kind) => {
             let rates = Vec::from_slice(heap, &numbers[form.count()..])?;
             Ok(Command::Lattice {
-                shape: shape_of(kind, numbers),
-                steps: numbers[0],
+                kind: kind_of(kind, numbers),
+                steps: numbers[0] as usize,
                 rates,
             })
         }

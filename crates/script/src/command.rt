@@ -2,47 +2,17 @@
 ghost use Rattle.std.specs.Prelude.{◌≡◌};
 ghost use Rattle.script.specs.Commands.{meant, needs_sheet, opens_sheet};
 
-// The weights of a node's three followers.
-#[derive(Clone, Copy, Debug)]
-pub struct Weights {
-    pub p: u32,
-    pub q: u32,
-    pub u: u32,
-}
-
-// How a node's followers are weighed; the worst takes the lower of two weighings.
-#[derive(Clone, Copy, Debug)]
-pub enum Shape {
-    Binomial,
-    Trinomial(Weights),
-    Worst(Weights, Weights),
-}
-
-// What stands where a call and a put meet.
-#[derive(Clone, Copy, Debug, PartialEq)]
-pub enum ClashRule {
-    Put,
-    Call,
-    Halfway,
-}
-
-#[derive(Clone, Copy, Debug, PartialEq)]
-pub enum Right {
-    Call,
-    Put,
-}
+use game::clash::AnyClash;
+use rates::kind::Kind;
+use rates::weights::Triple;
+use sheet::Edit;
 
 // A call of the open sheet.
 #[derive(Clone, Copy, Debug)]
 pub enum SheetCall {
-    Coupon { step: u32, amount: u32 },
-    Call { step: u32, price: u32, notice: u32 },
-    Put { step: u32, price: u32, notice: u32 },
-    Cancel { right: Right, step: u32 },
-    Redeem { amount: u32 },
-    Spread { spread: u32 },
-    Back { steps: u32 },
-    Read { step: u32, node: u32 },
+    Edit(Edit),
+    Back { steps: usize },
+    Read { step: usize, node: usize },
     Cost,
     Fit { price: u32 },
     Strike,
@@ -52,11 +22,11 @@ pub enum SheetCall {
 #[derive(Debug, Drop)]
 pub enum Command {
     Lattice {
-        shape: Shape,
-        steps: u32,
+        kind: Kind<Triple>,
+        steps: usize,
         rates: Vec<u32>,
     },
-    Clash(ClashRule),
+    Clash(AnyClash),
     Open,
     Sheet(SheetCall),
 }

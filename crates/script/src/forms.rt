@@ -3,7 +3,8 @@
 ghost use Rattle.std.specs.Prelude.{◌≡◌};
 ghost use Rattle.script.specs.Forms.{name_length, sheet_count, count_of, takes};
 
-use crate::command::{ClashRule, Right};
+use game::clash::AnyClash;
+use game::terms::Kind;
 
 #[derive(Clone, Copy, Debug, PartialEq)]
 pub enum LatticeKind {
@@ -16,9 +17,8 @@ pub enum LatticeKind {
 #[derive(Clone, Copy, Debug, PartialEq)]
 pub enum SheetForm {
     Coupon,
-    Call,
-    Put,
-    Cancel(Right),
+    Enter(Kind),
+    Cancel(Kind),
     Redeem,
     Spread,
     Back,
@@ -32,7 +32,7 @@ pub enum SheetForm {
 #[derive(Clone, Copy, Debug, PartialEq)]
 pub enum Form {
     Lattice(LatticeKind),
-    Clash(ClashRule),
+    Clash(AnyClash),
     Open,
     Sheet(SheetForm),
 }
@@ -77,7 +77,7 @@ impl SheetForm {
         ensures { result ≡ sheet_count self }
     {
         match self {
-            SheetForm::Call | SheetForm::Put => 3,
+            SheetForm::Enter(_) => 3,
             SheetForm::Coupon | SheetForm::Read => 2,
             SheetForm::Cancel(_)
             | SheetForm::Redeem

@@ -14,7 +14,7 @@ mod script;
 mod tests;
 mod words;
 
-pub use command::{ClashRule, Command, Right, Shape, SheetCall, Weights};
+pub use command::{Command, SheetCall};
 pub use fault::{Expected, ReadError, ScriptFault};
 pub use forms::Form;
 pub use script::read_script;

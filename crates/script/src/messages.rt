@@ -1,7 +1,8 @@
 // What was expected, in words.
-use crate::command::{ClashRule, Right};
 use crate::fault::{Expected, ScriptFault};
 use crate::forms::{Form, LatticeKind, SheetForm};
+use game::clash::AnyClash;
+use game::terms::Kind;
 use std::fmt;
 
 // How a call of the form is written.
@@ -11,15 +12,15 @@ impl fmt::Display for Form {
             Form::Lattice(LatticeKind::Binomial) => "lattice binomial STEPS RATE..",
             Form::Lattice(LatticeKind::Trinomial) => "lattice trinomial STEPS P Q U RATE..",
             Form::Lattice(LatticeKind::Worst) => "lattice worst STEPS P Q U P Q U RATE..",
-            Form::Clash(ClashRule::Put) => "clash put",
-            Form::Clash(ClashRule::Call) => "clash call",
-            Form::Clash(ClashRule::Halfway) => "clash halfway",
+            Form::Clash(AnyClash::PutPrevails) => "clash put",
+            Form::Clash(AnyClash::CallPrevails) => "clash call",
+            Form::Clash(AnyClash::Halfway) => "clash halfway",
             Form::Open => "open",
             Form::Sheet(SheetForm::Coupon) => "coupon STEP AMOUNT",
-            Form::Sheet(SheetForm::Call) => "call STEP PRICE NOTICE",
-            Form::Sheet(SheetForm::Put) => "put STEP PRICE NOTICE",
-            Form::Sheet(SheetForm::Cancel(Right::Call)) => "cancel call STEP",
-            Form::Sheet(SheetForm::Cancel(Right::Put)) => "cancel put STEP",
+            Form::Sheet(SheetForm::Enter(Kind::Call)) => "call STEP PRICE NOTICE",
+            Form::Sheet(SheetForm::Enter(Kind::Put)) => "put STEP PRICE NOTICE",
+            Form::Sheet(SheetForm::Cancel(Kind::Call)) => "cancel call STEP",
+            Form::Sheet(SheetForm::Cancel(Kind::Put)) => "cancel put STEP",
             Form::Sheet(SheetForm::Redeem) => "redeem AMOUNT",
             Form::Sheet(SheetForm::Spread) => "spread SPREAD",
             Form::Sheet(SheetForm::Back) => "back STEPS",

@@ -2,8 +2,9 @@
 ghost use Rattle.std.specs.Prelude.{◌≡◌};
 ghost use Rattle.script.specs.Names.{named, spelled, lattice_names, clash_names, right_names, opening_names};
 
-use crate::command::{ClashRule, Right};
 use crate::forms::{Form, LatticeKind, SheetForm};
+use game::clash::AnyClash;
+use game::terms::Kind;
 
 // What a first word begins: a whole name, or one that goes on by a second word.
 #[derive(Clone, Copy)]
@@ -35,8 +36,8 @@ pub fn first_word(word: &[u8]) -> Option<Opening>
         ("cancel", Opening::Cancel),
         ("open", Opening::Whole(Form::Open)),
         ("coupon", Opening::Whole(Form::Sheet(SheetForm::Coupon))),
-        ("call", Opening::Whole(Form::Sheet(SheetForm::Call))),
-        ("put", Opening::Whole(Form::Sheet(SheetForm::Put))),
+        ("call", Opening::Whole(Form::Sheet(SheetForm::Enter(Kind::Call)))),
+        ("put", Opening::Whole(Form::Sheet(SheetForm::Enter(Kind::Put)))),
         ("redeem", Opening::Whole(Form::Sheet(SheetForm::Redeem))),
         ("spread", Opening::Whole(Form::Sheet(SheetForm::Spread))),
         ("back", Opening::Whole(Form::Sheet(SheetForm::Back))),
@@ -60,20 +61,20 @@ pub fn lattice_word(word: &[u8]) -> Option<LatticeKind>
     lookup(&names, word)
 }
 
-pub fn clash_word(word: &[u8]) -> Option<ClashRule>
+pub fn clash_word(word: &[u8]) -> Option<AnyClash>
     ensures { result ≡ named clash_names word.now }
 {
     let names = [
-        ("put", ClashRule::Put),
-        ("call", ClashRule::Call),
-        ("halfway", ClashRule::Halfway),
+        ("put", AnyClash::PutPrevails),
+        ("call", AnyClash::CallPrevails),
+        ("halfway", AnyClash::Halfway),
     ];
     lookup(&names, word)
 }
 
-pub fn right_word(word: &[u8]) -> Option<Right>
+pub fn right_word(word: &[u8]) -> Option<Kind>
     ensures { result ≡ named right_names word.now }
 {
-    let names = [("call", Right::Call), ("put", Right::Put)];
+    let names = [("call", Kind::Call), ("put", Kind::Put)];
     lookup(&names, word)
 }

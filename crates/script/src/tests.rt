@@ -1,8 +1,13 @@
 // Scripts as they are written.
-use crate::command::{ClashRule, Command, Right, Shape, SheetCall, Weights};
+use crate::command::{Command, SheetCall};
 use crate::fault::{Expected, ReadError, ScriptFault};
 use crate::forms::{Form, LatticeKind, SheetForm};
 use crate::script::read_script;
+use game::clash::AnyClash;
+use game::terms::Kind as Right;
+use rates::kind::Kind;
+use rates::weights::Triple;
+use sheet::Edit;
 use std::test::Fail;
 
 // The fault of a script that is refused.
@@ -24,34 +29,28 @@ fn reads_a_script(rt: HostRuntime) -> Result<(), Fail> {
         matches!(
             &commands[0],
             Command::Lattice {
-                shape: Shape::Trinomial(Weights {
-                    p: 250,
-                    q: 500,
-                    u: 250
+                kind: Kind::Trinomial(Triple {
+                    low: 250,
+                    level: 500,
+                    high: 250
                 }),
                 steps: 2,
                 ..
             }
         )
     );
-    assert!(rt; matches!(&commands[1], Command::Clash(ClashRule::Halfway)));
+    assert!(rt; matches!(&commands[1], Command::Clash(AnyClash::Halfway)));
     assert!(rt; matches!(&commands[2], Command::Open));
     assert!(rt;
         matches!(
             &commands[3],
-            Command::Sheet(SheetCall::Coupon {
-                step: 3,
-                amount: 50
-            })
+            Command::Sheet(SheetCall::Edit(Edit::Coupon(3, 50)))
         )
     );
     assert!(rt;
         matches!(
             &commands[4],
-            Command::Sheet(SheetCall::Cancel {
-                right: Right::Put,
-                step: 4294967295
-            })
+            Command::Sheet(SheetCall::Edit(Edit::Cancel(Right::Put, 4294967295)))
         )
     );
     Ok(())

@@ -10,4 +10,4 @@ returns-in_ok-rates-in-Lattice c =
     let ns : List ℕ = c.args.numbers.now in
     let is = c.in-Lattice.is in
     let rates = c.in_ok-rates-in-Lattice.ensures.items ∙ take_rest ns c.count.result ∙ ap (λ (n : ℕ). drop n ns) c.count.ensures in
-    (λ i. lattice (c.shape_of.ensures i) (get_or ns 0 0) (rates i)) ∙ sym (ap (λ (f : Form). meaning f ns) is)
+    (λ i. lattice (c.kind_of.ensures i) (get_or ns 0 0) (rates i)) ∙ sym (ap (λ (f : Form). meaning f ns) is)
