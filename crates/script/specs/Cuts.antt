@@ -2,7 +2,6 @@
 --   cuts m b        whether the byte b is the mark m: a line end (10), a comment's beginning (35), or what separates words, a
 --                   blank (32), a tab (9) or a carriage return (13)
 --   before f bs     the bytes in front of the first that f holds of; all where there is none
---   after f bs      the bytes behind it; none where there is none
 --   pieces f bs     what stands between the bytes that f holds of, in order; the last piece may lack such a byte behind it
 --   filled ps       those of the pieces that are not empty
 --   lines_of text   its lines
@@ -22,10 +21,6 @@ cuts Blank b = b == 32 || (b == 9 || b == 13)
 abbrev pub before : (ℕ → Bool) → List ℕ → List ℕ
 before f [] = []
 before f (b ∷ bs) = cond (f b) [] (b ∷ before f bs)
-
-abbrev pub after : (ℕ → Bool) → List ℕ → List ℕ
-after f [] = []
-after f (b ∷ bs) = cond (f b) bs (after f bs)
 
 -- a byte put in front of the first piece
 abbrev pub onto : ℕ → List (List ℕ) → List (List ℕ)

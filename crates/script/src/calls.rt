@@ -24,14 +24,14 @@ use std::alloc::{AllocError, Global};
 fn word_at<'a>(words: &[&'a [u8]], i: usize) -> &'a [u8]
     ensures { result.now ≡ slice_index_or (texts words.now) i [] }
 {
-    if i < words.len() { words[i] } else { &[] }
+    words.get(i).copied().unwrap_or(&[])
 }
 
 // The words from a place on; none past the end.
-fn words_from<'w, 'a>(words: &'w [&'a [u8]], i: usize) -> &'w [&'a [u8]]
+fn words_from<'a>(words: &'a [&'a [u8]], i: usize) -> &'a [&'a [u8]]
     ensures { texts result.now ≡ drop i (texts words.now) }
 {
-    if i < words.len() { &words[i..] } else { &[] }
+    words.get(i..).unwrap_or(&[])
 }
 
 // The form that the first words name.
@@ -39,22 +39,16 @@ fn form_of(words: &[&[u8]]) -> Result<Form, Expected>
     ensures { result ≡ form_of (texts words.now) }
 {
     let second = word_at(words, 1);
-    match names::first_word(word_at(words, 0)) {
-        Some(Opening::Whole(form)) => Ok(form),
-        Some(Opening::Lattice) => match names::lattice_word(second) {
-            Some(kind) => Ok(Form::Lattice(kind)),
-            None => Err(Expected::LatticeKind),
-        },
-        Some(Opening::Clash) => match names::clash_word(second) {
-            Some(rule) => Ok(Form::Clash(rule)),
-            None => Err(Expected::ClashRule),
-        },
-        Some(Opening::Cancel) => match names::right_word(second) {
-            Some(right) => Ok(Form::Sheet(SheetForm::Cancel(right))),
-            None => Err(Expected::Right),
-        },
-        None => Err(Expected::Call),
-    }
+    Ok(match names::first_word(word_at(words, 0)).ok_or(Expected::Call)? {
+        Opening::Whole(form) => form,
+        Opening::Lattice => {
+            Form::Lattice(names::lattice_word(second).ok_or(Expected::LatticeKind)?)
+        }
+        Opening::Clash => Form::Clash(names::clash_word(second).ok_or(Expected::ClashRule)?),
+        Opening::Cancel => {
+            Form::Sheet(SheetForm::Cancel(names::right_word(second).ok_or(Expected::Right)?))
+        }
+    })
 }
 
 fn weights_at(numbers: &[u32], i: usize) -> Triple
@@ -134,10 +128,7 @@ fn numbers_of(heap: Global, form: Form, words: &[&[u8]]) -> Result<Vec<u32>, Lin
 {
     let mut found = Vec::new(heap);
     for word in words {
-        match number(word) {
-            Some(n) => found.push(n)?,
-            None => return Err(LineError::Fault(Expected::Number(form))),
-        }
+        found.push(number(word).ok_or(Expected::Number(form))?)?;
     }
     Ok(found)
 }

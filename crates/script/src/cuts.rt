@@ -1,6 +1,6 @@
 // Cutting a text at the bytes that end a line, begin a comment or separate words.
 ghost use Rattle.std.specs.Prelude.{◌≡◌};
-ghost use Rattle.script.specs.Cuts.{cuts, before, after};
+ghost use Rattle.script.specs.Cuts.{cuts, before};
 
 // What a text is cut at.
 #[derive(Clone, Copy)]
@@ -11,7 +11,7 @@ pub enum Mark {
 }
 
 impl Mark {
-    fn is(self, byte: u8) -> bool
+    pub fn is(self, byte: u8) -> bool
         ensures { result ≡ cuts self byte }
     {
         match self {
@@ -22,15 +22,13 @@ impl Mark {
     }
 }
 
-// What stands before the first byte that `mark` is, and what stands after it; the whole and nothing where there is none.
-pub fn cut(text: &[u8], mark: Mark) -> (&[u8], &[u8])
-    ensures front { result.0.now ≡ before (cuts mark) text.now }
-    ensures back { result.1.now ≡ after (cuts mark) text.now }
+// What stands before the first byte that `mark` is; the whole where there is none.
+pub fn before_mark(text: &[u8], mark: Mark) -> &[u8]
+    ensures { result.now ≡ before (cuts mark) text.now }
 {
-    for (i, byte) in text.iter().enumerate() {
-        if mark.is(*byte) {
-            return (&text[0..i], &text[i + 1..]);
-        }
-    }
-    (text, &[])
+    let end = text
+        .iter()
+        .position(|byte| mark.is(*byte))
+        .unwrap_or(text.len());
+    &text[..end]
 }

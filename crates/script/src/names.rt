@@ -19,12 +19,10 @@ pub enum Opening {
 fn lookup<T: Copy>(names: &[(&str, T)], word: &[u8]) -> Option<T>
     ensures { result ≡ named (spelled names.now) word.now }
 {
-    for entry in names {
-        if word == entry.0.as_bytes() {
-            return Some(entry.1);
-        }
-    }
-    None
+    names
+        .iter()
+        .find(|entry| word == entry.0.as_bytes())
+        .map(|entry| entry.1)
 }
 
 pub fn first_word(word: &[u8]) -> Option<Opening>

@@ -7,7 +7,7 @@ ghost use Rattle.script.specs.Script.{line_of, script_from, script_of, Reads};
 
 use crate::calls::command_from;
 use crate::command::Command;
-use crate::cuts::{Mark, cut};
+use crate::cuts::Mark;
 use crate::fault::{Expected, LineError, ReadError};
 use crate::words::words_of;
 use std::alloc::Global;
@@ -32,20 +32,12 @@ fn read_lines(heap: Global, text: &[u8], mut open: bool) -> Result<Vec<Command>,
     ensures { Reads (script_from «open» 1 (lines_of text.now)) result }
 {
     let mut commands = Vec::new(heap);
-    let mut number = 0;
-    let mut rest = text;
-    while !rest.is_empty() {
-        let (line, more) = cut(rest, Mark::LineEnd);
-        number += 1;
-        let found = match read_line(heap, line, open) {
-            Ok(found) => found,
-            Err(e) => return Err(e.at(number)),
-        };
+    for (above, line) in text.split(|byte| Mark::LineEnd.is(*byte)).enumerate() {
+        let found = read_line(heap, line, open).map_err(|e| e.at(above + 1))?;
         if let Some(command) = found {
             open |= command.opens_sheet();
             commands.push(command)?;
         }
-        rest = more;
     }
     Ok(commands)
 }
