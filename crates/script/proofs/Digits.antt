@@ -1,71 +1,76 @@
--- A number read digit by digit. Assumes nothing.
-use Rattle.std.proofs.Common.{◌≡◌, ℕ, ◌+◌, ◌-◌, ◌*◌, ◌^◌, ◌<◌, ◌≤◌, true, false, List, [], ◌∷◌, ◌++◌, length, get_or, drop, Some, None, Option, sym, refl, ap, ◌∙◌, append_assoc, append-nil, arith, Bor}
-use Rattle.std.proofs.lemmas.List.{at_drop_more, at_drop_all}
-use Rattle.std.proofs.lemmas.Bool.{cond-true, cond-false, cond_both, lt-ltb, le-ltb}
+-- A number read from its digits, and numbers word by word. Assumes nothing.
+use Rattle.std.proofs.Common.{◌≡◌, ℕ, ◌+◌, ◌-◌, ◌*◌, ◌^◌, ◌<◌, ◌≤◌, ◌&&◌, true, false, cond, List, [], ◌∷◌, ◌++◌, length, drop, Some, None, Ok, Err, Option, Result, sym, refl, ap, ◌∙◌, arith, rules, tests, Bor}
+use Rattle.std.proofs.lemmas.Bool.{cond-true, cond-false, lt-ltb, le-ltb}
+use Rattle.std.proofs.lemmas.Str.{IsUtf8-from_ascii}
+use Rattle.std.proofs.lemmas.Str.Ascii.{IsAscii-nil, IsAscii-cons}
+use Rattle.std.proofs.lemmas.Str.Parse.{IsNumeralModel, numerals_by_fold, parse_digits}
+use Rattle.std.specs.List.{list_all}
+use Rattle.std.specs.Str.{IsAscii, IsUtf8}
+use Rattle.std.specs.Str.Parse.{ParsesUnsigned}
+use Rattle.std.specs.Result.{result_ok, OkIff, MatchResult}
+use Rattle.std.specs.Option.{MatchOption}
 use Rattle.script.specs.Cuts.{texts}
-use Rattle.script.specs.Numbers.{is_digit, value_from, limited, number_of, also, numbers_of}
+use Rattle.script.specs.Numbers.{is_digit, value_from, limited, number_of, numbers_of}
 
--- once past the limit, no more digits bring it back
-past_limit : (v : ℕ) (bs : List ℕ) → 2 ^ 32 ≤ v → limited (value_from v bs) ≡ None
-past_limit v [] h = cond-false _ _ _ (le-ltb v (2 ^ 32) h)
-past_limit v (b ∷ bs) h =
-    cond_both (is_digit b) (value_from (v * 10 + (b - 48)) bs) None (λ o. limited o ≡ None) (λ _. past_limit (v * 10 + (b - 48)) bs (omega arith)) (λ _. refl)
+abbrev read_on : ℕ → List ℕ → ℕ
+read_on n [] = n
+read_on n (c ∷ cs) = read_on (n * 10 + (c - 48)) cs
 
-module _ (w : List ℕ) (i v : ℕ) where
-  -- v is what the first i digits are
-  abbrev pub Valued : Type 0
-  Valued = (v < 2 ^ 32) × (number_of w ≡ limited (value_from v (drop i w)))
+own : IsNumeralModel (λ ds. list_all is_digit ds ≡ true) (read_on 0)
+own = numerals_by_fold _ (search rules) read_on (search rules)
 
-  module _ (h : Valued) where
-    module _ (l : i < length w) where
-      pub no_digit : is_digit (get_or w i 0) ≡ false → None ≡ number_of w
-      no_digit e = sym (h.1 ∙ ap limited (at_drop_more (value_from v) w i 0 l ∙ cond-false _ _ _ e))
+value_read : (v : ℕ) (bs : List ℕ) → list_all is_digit bs ≡ true → value_from v bs ≡ Some (read_on v bs)
+value_read v [] h = refl
+value_read v (b ∷ bs) h =
+    elim (is_digit b) as (λ t. (t && list_all is_digit bs) ≡ true → cond t (value_from (v * 10 + (b - 48)) bs) None ≡ Some (read_on (v * 10 + (b - 48)) bs)) [ true ↦ value_read (v * 10 + (b - 48)) bs | false ↦ λ e. cc ] h
 
-      module _ (d : ℕ) (is : d ≡ get_or w i 0 - 48) (e : is_digit (get_or w i 0) ≡ true) where
-        next : number_of w ≡ limited (value_from (v * 10 + d) (drop (i + 1) w))
-        next = h.1 ∙ ap limited (at_drop_more (value_from v) w i 0 l ∙ cond-true _ _ _ e) ∙ ap (λ (n : ℕ). limited (value_from (v * 10 + n) (drop (i + 1) w))) (sym is)
+value_unread : (v : ℕ) (bs : List ℕ) → list_all is_digit bs ≡ false → value_from v bs ≡ None
+value_unread v [] h = cc
+value_unread v (b ∷ bs) h =
+    elim (is_digit b) as (λ t. (t && list_all is_digit bs) ≡ false → cond t (value_from (v * 10 + (b - 48)) bs) None ≡ None) [ true ↦ value_unread (v * 10 + (b - 48)) bs | false ↦ λ e. refl ] h
 
-        pub too_large : 2 ^ 32 ≤ v * 10 + d → None ≡ number_of w
-        too_large m = sym (next ∙ past_limit _ (drop (i + 1) w) m)
+digit_small : (b : ℕ) → is_digit b ≡ true → b < 128
+digit_small b h = search (rules, tests)
 
-        pub one_more : v * 10 + d < 2 ^ 32 → (v * 10 + d < 2 ^ 32) × (number_of w ≡ limited (value_from (v * 10 + d) (drop (i + 1) w)))
-        one_more m = (m, next)
+ascii : (bs : List ℕ) → list_all is_digit bs ≡ true → IsAscii bs
+ascii [] h = IsAscii-nil
+ascii (b ∷ bs) h =
+    elim (is_digit b) as (λ t. is_digit b ≡ t → (t && list_all is_digit bs) ≡ true → IsAscii (b ∷ bs)) [ true ↦ λ e p. IsAscii-cons b bs (digit_small b e) (ascii bs p) | false ↦ λ e p. cc ] refl h
 
-    pub no_more : length w ≤ i → Some v ≡ number_of w
-    no_more l = sym (h.1 ∙ ap limited (at_drop_all (value_from v) w i l) ∙ cond-true _ _ _ (lt-ltb v (2 ^ 32) h.0))
+digits_utf8 : (bs : List ℕ) → list_all is_digit bs ≡ true → IsUtf8 bs
+digits_utf8 bs h = IsUtf8-from_ascii bs (ascii bs h)
+
+-- digits are a text
+pub text_there : {E : Type 0} (w : List ℕ) (V : E → Type 0) (r : Result (Bor (List ℕ)) E) → list_all is_digit w ≡ true → MatchResult r (λ s. (s.now ≡ w) × IsUtf8 w) (λ e. ¬ (IsUtf8 w) × V e) → MatchOption (result_ok r) ⊥ (λ s. s.now ≡ w)
+text_there w V (Ok s) digits h = h.0
+text_there w V (Err e) digits h = absurd (h.0 (digits_utf8 w digits))
+
+pub other_byte : (w : List ℕ) → list_all is_digit w ≡ false → None ≡ number_of w
+other_byte [] h = refl
+other_byte (b ∷ bs) h = sym (ap limited (value_unread 0 (b ∷ bs) h))
+
+below_limit : {E : Type 0} (l n : ℕ) (r : Result ℕ E) → 0 < l → OkIff r ((0 < l) × (n < 2 ^ 32)) n → result_ok r ≡ limited (Some n)
+below_limit l n (Ok x) some h = ap Some h.1 ∙ sym (cond-true _ _ _ (lt-ltb n (2 ^ 32) h.0.1))
+below_limit l n (Err e) some h =
+    let over : n < 2 ^ 32 → ⊥ = λ k. h (some, k) in
+    let k : 2 ^ 32 ≤ n = omega arith in
+    sym (cond-false _ _ _ (le-ltb n (2 ^ 32) k))
+
+pub parsed : {E : Type 0} (w : List ℕ) (r : Result ℕ E) → list_all is_digit w ≡ true → ParsesUnsigned 32 10 w r → result_ok r ≡ number_of w
+parsed {E = E} [] r h p = empty r (parse_digits own 32 [] r p h)
+  where
+    empty : (r : Result ℕ E) → OkIff r ((0 < 0) × (0 < 2 ^ 32)) 0 → result_ok r ≡ None
+    empty (Ok x) k = absurd (omega (arith, k.0.0))
+    empty (Err e) k = refl
+parsed (b ∷ bs) r h p =
+    below_limit (length (b ∷ bs)) (read_on 0 (b ∷ bs)) r (omega arith) (parse_digits own 32 (b ∷ bs) r p h) ∙ sym (ap limited (value_read 0 (b ∷ bs) h))
 
 -- numbers with others in front
 abbrev pub behind : List ℕ → Option (List ℕ) → Option (List ℕ)
 behind ns None = None
 behind ns (Some ms) = Some (ns ++ ms)
 
-behind_push : (ns : List ℕ) (n : ℕ) (o : Option (List ℕ)) → behind ns (also (Some n) o) ≡ behind (ns ++ n ∷ []) o
-behind_push ns n None = refl
-behind_push ns n (Some ms) = ap Some (sym (append_assoc ns (n ∷ []) ms))
-
 module _ (ws : List (Bor (List ℕ))) (i : ℕ) (ns : List ℕ) where
   -- ns are the numbers of the first i words
   abbrev pub Numbered : Type 0
   Numbered = numbers_of (texts ws) ≡ behind ns (numbers_of (texts (drop i ws)))
-
-  module _ (h : Numbered) where
-    module _ (w : Bor (List ℕ)) (l : i < length ws) where
-      pub word_unread : number_of (get_or ws i w).now ≡ None → numbers_of (texts ws) ≡ None
-      word_unread e = h ∙ ap (behind ns) (at_drop_more (λ (vs : List (Bor (List ℕ))). numbers_of (texts vs)) ws i w l ∙ ap (λ (o : Option ℕ). also o (numbers_of (texts (drop (i + 1) ws)))) e)
-
-      pub word_read : (n : ℕ) → number_of (get_or ws i w).now ≡ Some n → {ms : List ℕ} → ms ≡ ns ++ n ∷ [] → numbers_of (texts ws) ≡ behind ms (numbers_of (texts (drop (i + 1) ws)))
-      word_read n e put =
-          h
-          ∙ ap (behind ns) (at_drop_more (λ (vs : List (Bor (List ℕ))). numbers_of (texts vs)) ws i w l ∙ ap (λ (o : Option ℕ). also o (numbers_of (texts (drop (i + 1) ws)))) e)
-          ∙ behind_push ns n (numbers_of (texts (drop (i + 1) ws)))
-          ∙ ap (λ (ms : List ℕ). behind ms (numbers_of (texts (drop (i + 1) ws)))) (sym put)
-
-    pub words_read : length ws ≤ i → numbers_of (texts ws) ≡ Some ns
-    words_read l = h ∙ ap (behind ns) (at_drop_all (λ (vs : List (Bor (List ℕ))). numbers_of (texts vs)) ws i l) ∙ ap Some (append-nil ns)
-
-behind_none : (o : Option (List ℕ)) → o ≡ behind [] o
-behind_none None = refl
-behind_none (Some ms) = refl
-
-pub words_none : (ws : List (Bor (List ℕ))) {ns : List ℕ} → ns ≡ [] → Numbered ws 0 ns
-words_none ws e = behind_none (numbers_of (texts ws)) ∙ ap (λ (ns : List ℕ). behind ns (numbers_of (texts ws))) (sym e)

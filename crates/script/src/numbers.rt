@@ -6,18 +6,9 @@ ghost use Rattle.script.specs.Numbers.{number_of};
 pub fn number(word: &[u8]) -> Option<u32>
     ensures { result ≡ number_of word.now }
 {
-    if word.is_empty() {
+    // `parse` takes a sign too
+    if !word.iter().all(|byte| byte.is_ascii_digit()) {
         return None;
     }
-    let mut value = 0u64;
-    for byte in word {
-        if !byte.is_ascii_digit() {
-            return None;
-        }
-        value = value * 10 + u64::from(*byte - b'0');
-        if value > u64::from(u32::MAX) {
-            return None;
-        }
-    }
-    Some(value as u32)
+    str::from_utf8(word).ok()?.parse().ok()
 }
