@@ -1,16 +1,16 @@
 -- From a form and its words to the call. Assumes nothing.
-use Rattle.std.proofs.Common.{◌≡◌, ℕ, suc, ◌≤◌, true, false, List, [], ◌∷◌, length, drop, IfSome, Some, None, Ok, Err, Option, Result, sym, refl, ap, ◌∙◌, arith, Bor}
+use Rattle.std.proofs.Common.{◌≡◌, ℕ, suc, ◌≤◌, true, List, [], ◌∷◌, length, drop, IfSome, Some, None, Ok, Err, Option, Result, sym, refl, ap, ◌∙◌, arith, Bor}
 use Rattle.std.specs.Option.{ok_or}
 use Rattle.std.proofs.lemmas.List.{length-map}
 use Rattle.std.proofs.lemmas.Option.{MatchOption-at_some}
-use Rattle.std.proofs.lemmas.Bool.{cond-true, cond-false, leb-true, eqb-true}
+use Rattle.std.proofs.lemmas.Bool.{cond-true, leb-true, eqb-true}
 use Rattle.script.specs.declared.fault.Expected.{Expected}
 use Rattle.script.specs.declared.fault.Expected.TheVariants as expected
 use Rattle.script.specs.declared.fault.LineError.{LineError}
 use Rattle.script.specs.declared.fault.LineError.TheVariants.{Fault, Memory}
 use Rattle.script.specs.declared.forms.Form.{Form}
 use Rattle.script.specs.declared.forms.Form.TheVariants.{Lattice, Clash, Open, Sheet}
-use Rattle.script.specs.Calls.{meaning, form_of, call_of, with_form, with_words, with_numbers}
+use Rattle.script.specs.Calls.{form_of, call_of, with_form, with_words, with_numbers}
 use Rattle.script.specs.Commands.{Meaning}
 use Rattle.script.specs.Cuts.{texts}
 use Rattle.script.specs.Faults.{Gives}
@@ -54,9 +54,6 @@ module _ {ws : List (List ℕ)} {f : Form} {vs : List (Bor (List ℕ))} (begun :
   same_length : length (texts vs) ≡ length vs
   same_length = length-map vs (λ w. w.now)
 
-  pub other_count : false ≡ takes f (length vs) → call_of ws ≡ Err (expected.Words f)
-  other_count e = at_form ∙ cond-false _ _ _ (ap (takes f) same_length ∙ sym e)
-
   module _ (counted : true ≡ takes f (length vs)) where
     right_count : call_of ws ≡ with_numbers f (numbers_of (texts vs))
     right_count = at_form ∙ cond-true _ _ _ (ap (takes f) same_length ∙ sym counted)
@@ -70,6 +67,3 @@ module _ {ws : List (List ℕ)} {f : Form} {vs : List (Bor (List ℕ))} (begun :
       enough =
           let k = MatchOption-at_some (Unit {0}) (λ (ms : List ℕ). length ms ≡ length (texts vs)) ns (read_numbers f _ ns numbers) (numbers_length (texts vs)) in
           omega (arith, count_within f (length vs) (sym counted), k ∙ same_length)
-
-      pub call_read : call_of ws ≡ Ok (meaning f ns)
-      call_read = right_count ∙ ap (with_numbers f) (read_numbers f _ ns numbers)

@@ -1,7 +1,6 @@
 -- A script read line by line. Assumes nothing.
-use Rattle.std.proofs.Common.{◌≡◌, ℕ, ◌+◌, ◌<◌, ◌≤◌, Bool, true, ◌||◌, eqb, List, get_or, drop, [], ◌∷◌, ◌++◌, length, Some, None, Ok, Err, Option, Result, sym, refl, ap, ◌∙◌, append_assoc, append-nil, length-append, subst, arith}
+use Rattle.std.proofs.Common.{◌≡◌, ℕ, ◌+◌, ◌<◌, ◌≤◌, Bool, ◌||◌, List, get_or, drop, [], ◌∷◌, ◌++◌, length, Some, None, Ok, Err, Option, Result, sym, refl, ap, ◌∙◌, append_assoc, append-nil, length-append, subst, arith}
 use Rattle.std.proofs.lemmas.List.{at_drop_more, drop_all}
-use Rattle.std.proofs.lemmas.Bool.{eqb-true}
 use Rattle.std.specs.Option.{option_map}
 use Rattle.std.specs.Result.{MatchResult}
 use Rattle.script.specs.declared.fault.ReadError.{ReadError}
@@ -10,27 +9,13 @@ use Rattle.script.specs.declared.cuts.Mark.TheVariants.{LineEnd}
 use Rattle.script.specs.declared.fault.Expected.{Expected}
 use Rattle.script.specs.declared.fault.LineError.{LineError}
 use Rattle.script.specs.declared.fault.LineError.TheVariants.{Fault, Memory}
-use Rattle.script.specs.Calls.{call_of}
 use Rattle.script.specs.Commands.{Meaning, meant, opens_sheet}
 use Rattle.script.specs.Cuts.{cuts, lines_of}
 use Rattle.script.specs.Faults.{Gives, at_line}
-use Rattle.script.specs.Script.{Script, permitted, line_from, line_of, first, onward, script_from, Reads}
+use Rattle.script.specs.Script.{Script, line_of, first, onward, script_from, Reads}
 use Rattle.script.proofs.Pieces.{of_split}
 use Rattle.std.specs.List.{slice_split, enumerate_from}
 use Rattle.std.proofs.lemmas.List.FromFn.{length-enumerate_from, get_or-enumerate_from}
-
-pub no_words : (b : Bool) (ws : List (List ℕ)) → length ws ≡ 0 → line_from b ws ≡ Ok None
-no_words b [] e = refl
-no_words b (w ∷ ws) e = absurd (omega arith)
-
-pub some_words : (b : Bool) (ws : List (List ℕ)) → (length ws ≡ 0 → ⊥) → line_from b ws ≡ permitted b (call_of ws)
-some_words b [] e = absurd (e refl)
-some_words b (w ∷ ws) e = refl
-
--- a line with words stops where its call does
-pub line_stopped : {X Y : Type 0} (f : X → Meaning) (g : Y → Option Meaning) (b : Bool) (ws : List (List ℕ)) → (length ws ≡ 0 → ⊥) → (e : LineError) → Gives f (call_of ws) (Err e) → Gives g (line_from b ws) (Err e)
-line_stopped f g b ws h (Fault x) e = some_words b ws h ∙ ap (permitted b) e
-line_stopped f g b ws h Memory e = tt
 
 -- m is the line's answer r, where a fault is put at its place k
 pub record Placed (r : Result (Option Command) LineError) (k : ℕ) (m : Result (Option Command) ReadError) : Type 0 where

@@ -39,7 +39,8 @@ fn form_of(words: &[&[u8]]) -> Result<Form, Expected>
     ensures { result ≡ form_of (texts words.now) }
 {
     let second = word_at(words, 1);
-    Ok(match names::first_word(word_at(words, 0)).ok_or(Expected::Call)? {
+    let opening = names::first_word(word_at(words, 0)).ok_or(Expected::Call)?;
+    Ok(match opening {
         Opening::Whole(form) => form,
         Opening::Lattice => {
             Form::Lattice(names::lattice_word(second).ok_or(Expected::LatticeKind)?)

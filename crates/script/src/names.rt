@@ -34,8 +34,14 @@ pub fn first_word(word: &[u8]) -> Option<Opening>
         ("cancel", Opening::Cancel),
         ("open", Opening::Whole(Form::Open)),
         ("coupon", Opening::Whole(Form::Sheet(SheetForm::Coupon))),
-        ("call", Opening::Whole(Form::Sheet(SheetForm::Enter(Kind::Call)))),
-        ("put", Opening::Whole(Form::Sheet(SheetForm::Enter(Kind::Put)))),
+        (
+            "call",
+            Opening::Whole(Form::Sheet(SheetForm::Enter(Kind::Call))),
+        ),
+        (
+            "put",
+            Opening::Whole(Form::Sheet(SheetForm::Enter(Kind::Put))),
+        ),
         ("redeem", Opening::Whole(Form::Sheet(SheetForm::Redeem))),
         ("spread", Opening::Whole(Form::Sheet(SheetForm::Spread))),
         ("back", Opening::Whole(Form::Sheet(SheetForm::Back))),

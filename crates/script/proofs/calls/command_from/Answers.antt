@@ -1,19 +1,15 @@
-use Rattle.std.proofs.Common.{ℕ, length, drop, Ok, vec_items, Vec, sym, ap, ◌∙◌, arith}
+use Rattle.std.proofs.Common.{ℕ, length, drop, vec_items, Vec, ap, ◌∙◌, arith}
 use Rattle.std.proofs.lemmas.Result.{err_from_is_err_and}
 use Rattle.std.specs.declared.alloc.Global.{Global}
-use Rattle.script.specs.Calls.{meaning}
 use Rattle.script.specs.Commands.{meant}
 use Rattle.script.specs.Cuts.{texts}
-use Rattle.script.proofs.Meant.{Begun, other_count, no_numbers, enough, call_read}
+use Rattle.script.proofs.Meant.{Begun, no_numbers, enough}
 use Rattle.script.proofs.calls.command_from.Goals as goal
 use Rattle.script.proofs.calls.command_from.Goals.{After-words_from-rest}
 
 named : (c : After-words_from-rest) → Begun (texts c.args.words.now) c.in_ok-form.form c.words_from-rest.result.now
 named c =
     record { form = c.in_ok-form.ensures; rest = c.words_from-rest.ensures ∙ ap (λ (n : ℕ). drop n (texts c.args.words.now)) c.name_length.ensures }
-
-pub returns-then-not-takes : goal.returns-then-not-takes
-returns-then-not-takes c = other_count (named (goal.at.returns-then-not-takes c).After-words_from-rest) c.if-not-takes.ensures
 
 pub returns-in_err-numbers : goal.returns-in_err-numbers
 returns-in_err-numbers c =
@@ -24,8 +20,3 @@ returns-in_err-numbers c =
 pub command_of-requires : goal.command_of-requires
 command_of-requires c =
     omega (arith, enough (named (goal.at.command_of-requires c).After-words_from-rest) c.if-not-takes.ensures c.in_ok-numbers.ensures, ap length c.deref.ensures.value)
-
-pub returns : goal.returns
-returns c =
-    call_read (named (goal.at.returns c).After-words_from-rest) c.if-not-takes.ensures c.in_ok-numbers.ensures
-    ∙ ap Ok (sym (c.in_ok-command_of.ensures ∙ ap (meaning c.in_ok-form.form) c.deref.ensures.value))

@@ -1,4 +1,4 @@
-use Rattle.std.proofs.Common.{◌≡◌, ℕ, None, Some, true, false, rules, tests, Bool, List, sym, ap, ◌∙◌, subst}
+use Rattle.std.proofs.Common.{◌≡◌, ℕ, None, Some, rules, tests, List, sym, ◌∙◌, subst}
 use Rattle.std.proofs.lemmas.Option.{MatchOption-at_some, MatchOption-at_none}
 use Rattle.std.specs.Str.Parse.{ParsesUnsigned}
 use Rattle.std.specs.Str.{IsValidUpTo, valid_up_to}
@@ -27,6 +27,6 @@ returns c =
     let digits = sym (tested (goal.at.returns c).After-all) ∙ c.if-not-all.false in
     let was : c.ok.result ≡ Some c.in_ok-ok.field-0 = c.in_ok-ok.was in
     let text =
-        MatchOption-at_some ⊥ (λ s. s.now ≡ c.args.word.now) c.in_ok-ok.field-0 (sym c.ok.ensures.value ∙ was)
-        (text_there c.args.word.now (λ e. IsValidUpTo c.args.word.now (valid_up_to e)) c.from_utf8.result digits c.from_utf8.ensures.cases) in
+    MatchOption-at_some ⊥ (λ s. s.now ≡ c.args.word.now) c.in_ok-ok.field-0 (sym c.ok.ensures.value ∙ was)
+    (text_there c.args.word.now (λ e. IsValidUpTo c.args.word.now (valid_up_to e)) c.from_utf8.result digits c.from_utf8.ensures.cases) in
     c.ok-2.ensures.value ∙ parsed c.args.word.now c.parse.result digits (subst (λ (bs : List ℕ). ParsesUnsigned 32 10 bs c.parse.result) text c.parse.ensures.value.0)
