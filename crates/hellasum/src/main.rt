@@ -1,6 +1,7 @@
 // Values callable and putable bonds from a script.
 #![tactic(auto)]
 
+mod desk;
 mod perform;
 mod say;
 mod table;

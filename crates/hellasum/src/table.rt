@@ -1,10 +1,10 @@
 // The worked nodes of a sheet as a table for people.
-use game::clash::AnyClash;
+use crate::desk::Desk;
 use lattice::Lattice;
-use lattice::tree::Tree;
-use sheet::{Entry, Sheet};
+use sheet::Entry;
 use std::io;
 
+// From the byte of a row, which is the host's and may hold any: so a byte is matched here, and not a `Mark`.
 fn mark_name(mark: u8) -> &'static str {
     match mark {
         0 => "-",
@@ -22,21 +22,16 @@ fn line(rt: &HostRuntime, t: usize, j: usize, entry: Entry) -> io::Result<()> {
     println!(rt; "{t:>4} {j:>5} {whole:>8}.{rest:04}  {mark}")
 }
 
-pub fn print(
-    rt: &HostRuntime,
-    lattice: &Tree,
-    sheet: &Sheet<Tree, AnyClash>,
-    values: &[u32],
-    marks: &[u8],
-) -> io::Result<()> {
-    let w = sheet.first_worked();
-    if w > lattice.steps() {
+pub fn print(rt: &HostRuntime, desk: &Desk) -> io::Result<()> {
+    let last = desk.lattice().steps();
+    let w = desk.first_worked();
+    if w > last {
         return rt.println("no step is worked");
     }
     rt.println("step  node         price  exercise")?;
-    for t in w..lattice.steps() + 1 {
-        for j in 0..lattice.nodes(t) {
-            if let Ok(entry) = sheet.read(t, j, values, marks) {
+    for t in w..=last {
+        for j in 0..desk.lattice().nodes(t) {
+            if let Ok(entry) = desk.read(t, j) {
                 line(rt, t, j, entry)?;
             }
         }
