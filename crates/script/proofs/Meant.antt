@@ -6,14 +6,13 @@ use Rattle.std.proofs.lemmas.Option.{MatchOption-at_some}
 use Rattle.std.proofs.lemmas.Bool.{cond-true, leb-true, eqb-true}
 use Rattle.script.specs.declared.fault.Expected.{Expected}
 use Rattle.script.specs.declared.fault.Expected.TheVariants as expected
-use Rattle.script.specs.declared.fault.LineError.{LineError}
-use Rattle.script.specs.declared.fault.LineError.TheVariants.{Fault, Memory}
+use Rattle.script.specs.declared.fault.Unread.TheVariants.{Fault, Memory}
 use Rattle.script.specs.declared.forms.Form.{Form}
 use Rattle.script.specs.declared.forms.Form.TheVariants.{Lattice, Clash, Open, Sheet}
 use Rattle.script.specs.Calls.{form_of, call_of, with_form, with_words, with_numbers}
 use Rattle.script.specs.Commands.{Meaning}
 use Rattle.script.specs.Cuts.{texts}
-use Rattle.script.specs.Faults.{Gives}
+use Rattle.script.specs.Faults.{LineError, Gives}
 use Rattle.script.specs.Forms.{name_length, lattice_count, sheet_count, count_of, takes}
 use Rattle.script.specs.Numbers.{number_of, also, numbers_of}
 

@@ -3,15 +3,13 @@ use Rattle.std.proofs.Common.{◌≡◌, ℕ, ◌+◌, ◌<◌, ◌≤◌, Bool,
 use Rattle.std.proofs.lemmas.List.{at_drop_more, drop_all}
 use Rattle.std.specs.Option.{option_map}
 use Rattle.std.specs.Result.{MatchResult}
-use Rattle.script.specs.declared.fault.ReadError.{ReadError}
 use Rattle.script.specs.declared.command.Command.{Command}
 use Rattle.script.specs.declared.cuts.Mark.TheVariants.{LineEnd}
 use Rattle.script.specs.declared.fault.Expected.{Expected}
-use Rattle.script.specs.declared.fault.LineError.{LineError}
-use Rattle.script.specs.declared.fault.LineError.TheVariants.{Fault, Memory}
+use Rattle.script.specs.declared.fault.Unread.TheVariants.{Fault, Memory}
 use Rattle.script.specs.Commands.{Meaning, meant, opens_sheet}
 use Rattle.script.specs.Cuts.{cuts, lines_of}
-use Rattle.script.specs.Faults.{Gives, at_line}
+use Rattle.script.specs.Faults.{LineError, ReadError, Gives, at_line}
 use Rattle.script.specs.Script.{Script, line_of, first, onward, script_from, Reads}
 use Rattle.script.proofs.Pieces.{of_split}
 use Rattle.std.specs.List.{slice_split, enumerate_from}

@@ -4,16 +4,22 @@
 -- Assumes nothing.
 use Rattle.std.specs.Prelude.{◌≡◌, ℕ, Ok, Err, Result}
 use Rattle.script.specs.declared.fault.Expected.{Expected}
-use Rattle.script.specs.declared.fault.LineError.{LineError}
-use Rattle.script.specs.declared.fault.LineError.TheVariants as line
-use Rattle.script.specs.declared.fault.ReadError.{ReadError}
-use Rattle.script.specs.declared.fault.ReadError.TheVariants as script
+use Rattle.script.specs.declared.fault.ScriptFault.{ScriptFault}
+use Rattle.script.specs.declared.fault.Unread.{Unread}
+use Rattle.script.specs.declared.fault.Unread.TheVariants.{Fault, Memory}
+
+-- what a line's reader answers, and a script's, in place of what it reads
+abbrev pub LineError : Type 0
+LineError = Unread Expected
+
+abbrev pub ReadError : Type 0
+ReadError = Unread ScriptFault
 
 abbrev pub Gives : {X Y : Type 0} → (X → Y) → Result Y Expected → Result X LineError → Type 0
 Gives f want (Ok x) = want ≡ Ok (f x)
-Gives f want (Err (line.Fault e)) = want ≡ Err e
-Gives f want (Err line.Memory) = Unit {0}
+Gives f want (Err (Fault e)) = want ≡ Err e
+Gives f want (Err Memory) = Unit {0}
 
 abbrev pub at_line : ℕ → LineError → ReadError
-at_line n (line.Fault e) = script.Fault (record { line = n; expected = e })
-at_line n line.Memory = script.Memory
+at_line n (Fault e) = Fault (record { line = n; expected = e })
+at_line n Memory = Memory

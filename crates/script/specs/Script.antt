@@ -10,12 +10,12 @@ use Rattle.std.specs.declared.alloc.Global.{Global}
 use Rattle.script.specs.declared.command.Command.{Command}
 use Rattle.script.specs.declared.fault.Expected.{Expected}
 use Rattle.script.specs.declared.fault.Expected.TheVariants.{OpenSheet}
-use Rattle.script.specs.declared.fault.ReadError.{ReadError}
-use Rattle.script.specs.declared.fault.ReadError.TheVariants.{Fault, Memory}
+use Rattle.script.specs.declared.fault.Unread.TheVariants.{Fault, Memory}
 use Rattle.script.specs.declared.fault.ScriptFault.{ScriptFault}
 use Rattle.script.specs.Calls.{call_of}
 use Rattle.script.specs.Commands.{Meaning, meant, needs_sheet, opens_sheet}
 use Rattle.script.specs.Cuts.{lines_of, words_of}
+use Rattle.script.specs.Faults.{ReadError}
 
 -- a call, where it may stand
 abbrev pub permitted : Bool → Result Meaning Expected → Result (Option Meaning) Expected

@@ -1,7 +1,6 @@
 // Why a script is refused.
 ghost use Rattle.std.specs.Prelude.{◌≡◌};
-ghost use Rattle.script.specs.declared.fault.LineError.TheVariants as in_line;
-ghost use Rattle.script.specs.declared.fault.ReadError.TheVariants as in_script;
+ghost use Rattle.script.specs.declared.fault.Unread.TheVariants as unread;
 ghost use Rattle.script.specs.Faults.{at_line};
 
 use crate::forms::Form;
@@ -30,48 +29,38 @@ pub struct ScriptFault {
     pub expected: Expected,
 }
 
-// Why one line is not read.
-#[derive(Clone, Copy)]
-pub(crate) enum LineError {
-    Fault(Expected),
+// Why a line or a script is not read.
+#[derive(Clone, Copy, Debug)]
+pub enum Unread<F> {
+    Fault(F),
     Memory,
 }
 
-#[derive(Clone, Copy, Debug)]
-pub enum ReadError {
-    Fault(ScriptFault),
-    Memory,
-}
+pub(crate) type LineError = Unread<Expected>;
+
+pub type ReadError = Unread<ScriptFault>;
 
 impl From<Expected> for LineError {
-    ghost from_gives = { λ e r. r ≡ in_line.Fault e };
+    ghost from_gives = { λ e r. r ≡ unread.Fault e };
 
     fn from(e: Expected) -> LineError {
         LineError::Fault(e)
     }
 }
 
-impl From<AllocError> for LineError {
-    ghost from_gives = { λ _ r. r ≡ in_line.Memory };
+impl<F> From<AllocError> for Unread<F> {
+    ghost from_gives = { λ _ r. r ≡ unread.Memory };
 
-    fn from(_e: AllocError) -> LineError {
-        LineError::Memory
+    fn from(_e: AllocError) -> Unread<F> {
+        Unread::Memory
     }
 }
 
-impl<T: Drop> From<AllocFailed<T>> for LineError {
-    ghost from_gives = { λ _ r. r ≡ in_line.Memory };
+impl<F, T: Drop> From<AllocFailed<T>> for Unread<F> {
+    ghost from_gives = { λ _ r. r ≡ unread.Memory };
 
-    fn from(_e: AllocFailed<T>) -> LineError {
-        LineError::Memory
-    }
-}
-
-impl<T: Drop> From<AllocFailed<T>> for ReadError {
-    ghost from_gives = { λ _ r. r ≡ in_script.Memory };
-
-    fn from(_e: AllocFailed<T>) -> ReadError {
-        ReadError::Memory
+    fn from(_e: AllocFailed<T>) -> Unread<F> {
+        Unread::Memory
     }
 }
 

@@ -15,6 +15,6 @@ mod tests;
 mod words;
 
 pub use command::{Command, SheetCall};
-pub use fault::{Expected, ReadError, ScriptFault};
+pub use fault::{Expected, ReadError, ScriptFault, Unread};
 pub use forms::Form;
 pub use script::read_script;
