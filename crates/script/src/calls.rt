@@ -12,8 +12,7 @@ ghost use Rattle.script.specs.Numbers.{numbers_of};
 use crate::command::{Command, SheetCall};
 use crate::fault::{Expected, LineError};
 use crate::forms::{Form, LatticeKind, SheetForm};
-use crate::names;
-use crate::names::Opening;
+use crate::names::{CLASHES, FIRST, LATTICES, Opening, RIGHTS, lookup};
 use crate::numbers::number;
 use rates::kind::Kind;
 use rates::weights::Triple;
@@ -39,15 +38,15 @@ fn form_of(words: &[&[u8]]) -> Result<Form, Expected>
     ensures { result ≡ form_of (texts words.now) }
 {
     let second = word_at(words, 1);
-    let opening = names::first_word(word_at(words, 0)).ok_or(Expected::Call)?;
+    let opening = lookup(&FIRST, word_at(words, 0)).ok_or(Expected::Call)?;
     Ok(match opening {
         Opening::Whole(form) => form,
         Opening::Lattice => {
-            Form::Lattice(names::lattice_word(second).ok_or(Expected::LatticeKind)?)
+            Form::Lattice(lookup(&LATTICES, second).ok_or(Expected::LatticeKind)?)
         }
-        Opening::Clash => Form::Clash(names::clash_word(second).ok_or(Expected::ClashRule)?),
+        Opening::Clash => Form::Clash(lookup(&CLASHES, second).ok_or(Expected::ClashRule)?),
         Opening::Cancel => {
-            Form::Sheet(SheetForm::Cancel(names::right_word(second).ok_or(Expected::Right)?))
+            Form::Sheet(SheetForm::Cancel(lookup(&RIGHTS, second).ok_or(Expected::Right)?))
         }
     })
 }

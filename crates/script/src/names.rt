@@ -1,6 +1,6 @@
 // The words that a call is named by.
 ghost use Rattle.std.specs.Prelude.{◌≡◌};
-ghost use Rattle.script.specs.Names.{named, spelled, lattice_names, clash_names, right_names, opening_names};
+ghost use Rattle.script.specs.Names.{named, spelled};
 
 use crate::forms::{Form, LatticeKind, SheetForm};
 use game::clash::AnyClash;
@@ -16,7 +16,7 @@ pub enum Opening {
 }
 
 // What the word names.
-fn lookup<T: Copy>(names: &[(&str, T)], word: &[u8]) -> Option<T>
+pub fn lookup<T: Copy>(names: &[(&str, T)], word: &[u8]) -> Option<T>
     ensures { result ≡ named (spelled names.now) word.now }
 {
     names
@@ -25,60 +25,42 @@ fn lookup<T: Copy>(names: &[(&str, T)], word: &[u8]) -> Option<T>
         .map(|entry| entry.1)
 }
 
-pub fn first_word(word: &[u8]) -> Option<Opening>
-    ensures { result ≡ named opening_names word.now }
-{
-    let names = [
-        ("lattice", Opening::Lattice),
-        ("clash", Opening::Clash),
-        ("cancel", Opening::Cancel),
-        ("open", Opening::Whole(Form::Open)),
-        ("coupon", Opening::Whole(Form::Sheet(SheetForm::Coupon))),
-        (
-            "call",
-            Opening::Whole(Form::Sheet(SheetForm::Enter(Kind::Call))),
-        ),
-        (
-            "put",
-            Opening::Whole(Form::Sheet(SheetForm::Enter(Kind::Put))),
-        ),
-        ("redeem", Opening::Whole(Form::Sheet(SheetForm::Redeem))),
-        ("spread", Opening::Whole(Form::Sheet(SheetForm::Spread))),
-        ("back", Opening::Whole(Form::Sheet(SheetForm::Back))),
-        ("read", Opening::Whole(Form::Sheet(SheetForm::Read))),
-        ("cost", Opening::Whole(Form::Sheet(SheetForm::Cost))),
-        ("fit", Opening::Whole(Form::Sheet(SheetForm::Fit))),
-        ("strike", Opening::Whole(Form::Sheet(SheetForm::Strike))),
-        ("table", Opening::Whole(Form::Sheet(SheetForm::Table))),
-    ];
-    lookup(&names, word)
-}
+// The first words of calls.
+pub const FIRST: [(&str, Opening); 15] = [
+    ("lattice", Opening::Lattice),
+    ("clash", Opening::Clash),
+    ("cancel", Opening::Cancel),
+    ("open", Opening::Whole(Form::Open)),
+    ("coupon", Opening::Whole(Form::Sheet(SheetForm::Coupon))),
+    (
+        "call",
+        Opening::Whole(Form::Sheet(SheetForm::Enter(Kind::Call))),
+    ),
+    (
+        "put",
+        Opening::Whole(Form::Sheet(SheetForm::Enter(Kind::Put))),
+    ),
+    ("redeem", Opening::Whole(Form::Sheet(SheetForm::Redeem))),
+    ("spread", Opening::Whole(Form::Sheet(SheetForm::Spread))),
+    ("back", Opening::Whole(Form::Sheet(SheetForm::Back))),
+    ("read", Opening::Whole(Form::Sheet(SheetForm::Read))),
+    ("cost", Opening::Whole(Form::Sheet(SheetForm::Cost))),
+    ("fit", Opening::Whole(Form::Sheet(SheetForm::Fit))),
+    ("strike", Opening::Whole(Form::Sheet(SheetForm::Strike))),
+    ("table", Opening::Whole(Form::Sheet(SheetForm::Table))),
+];
 
-pub fn lattice_word(word: &[u8]) -> Option<LatticeKind>
-    ensures { result ≡ named lattice_names word.now }
-{
-    let names = [
-        ("binomial", LatticeKind::Binomial),
-        ("trinomial", LatticeKind::Trinomial),
-        ("worst", LatticeKind::Worst),
-    ];
-    lookup(&names, word)
-}
+// The second words behind `lattice`, `clash` and `cancel`.
+pub const LATTICES: [(&str, LatticeKind); 3] = [
+    ("binomial", LatticeKind::Binomial),
+    ("trinomial", LatticeKind::Trinomial),
+    ("worst", LatticeKind::Worst),
+];
 
-pub fn clash_word(word: &[u8]) -> Option<AnyClash>
-    ensures { result ≡ named clash_names word.now }
-{
-    let names = [
-        ("put", AnyClash::PutPrevails),
-        ("call", AnyClash::CallPrevails),
-        ("halfway", AnyClash::Halfway),
-    ];
-    lookup(&names, word)
-}
+pub const CLASHES: [(&str, AnyClash); 3] = [
+    ("put", AnyClash::PutPrevails),
+    ("call", AnyClash::CallPrevails),
+    ("halfway", AnyClash::Halfway),
+];
 
-pub fn right_word(word: &[u8]) -> Option<Kind>
-    ensures { result ≡ named right_names word.now }
-{
-    let names = [("call", Kind::Call), ("put", Kind::Put)];
-    lookup(&names, word)
-}
+pub const RIGHTS: [(&str, Kind); 2] = [("call", Kind::Call), ("put", Kind::Put)];
