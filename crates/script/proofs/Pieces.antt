@@ -2,6 +2,7 @@
 use Rattle.std.proofs.Common.{◌≡◌, ℕ, ◌+◌, ◌<◌, ◌≤◌, Bool, true, false, cond, not, eqb, ltb, List, [], ◌∷◌, ◌++◌, length, take, Some, None, Option, refl, ap, ◌∙◌, arith}
 use Rattle.std.proofs.lemmas.Grind.{common_steps}
 use Rattle.std.proofs.lemmas.Bool.Decides.{nat_tests}
+use Rattle.std.proofs.lemmas.List.Sums.{prefix_len-le-length}
 use Rattle.std.specs.List.{slice_split, onto_first, position_or_len, prefix_len, filter}
 use Rattle.std.specs.Option.{unwrap_or}
 use mathlib.Core.Logic.{◌⊎◌, inl, inr}
@@ -18,14 +19,9 @@ before_first_is f (b ∷ bs) =
       | false ↦ take_cons b (prefix_len (λ x. not (f x)) bs) bs ∙ ap (λ (l : List ℕ). b ∷ l) (before_first_is f bs)
     ]
 
-place_within : (f : ℕ → Bool) (bs : List ℕ) → position_or_len f bs ≤ length bs
-place_within f [] = omega arith
-place_within f (b ∷ bs) =
-    elim (f b) as (λ t. cond (not t) (1 + prefix_len (λ x. not (f x)) bs) 0 ≤ length (b ∷ bs)) [ true ↦ omega arith | false ↦ omega (arith, place_within f bs) ]
-
 -- what stands before the place that `position` finds
 pub before_is : (f : ℕ → Bool) (bs : List ℕ) (o : Option ℕ) → o ≡ cond (ltb (position_or_len f bs) (length bs)) (Some (position_or_len f bs)) None → take (unwrap_or o (length bs)) bs ≡ before f bs
-before_is f bs o e = ap (λ (n : ℕ). take n bs) (ap (λ (p : Option ℕ). unwrap_or p (length bs)) e ∙ place (position_or_len f bs) (length bs) (place_within f bs)) ∙ before_first_is f bs
+before_is f bs o e = ap (λ (n : ℕ). take n bs) (ap (λ (p : Option ℕ). unwrap_or p (length bs)) e ∙ place (position_or_len f bs) (length bs) (prefix_len-le-length (λ x. not (f x)) bs)) ∙ before_first_is f bs
   where
     place : (i n : ℕ) → i ≤ n → unwrap_or (cond (ltb i n) (Some i) None) n ≡ i
     place i n h = grind (arith, nat_tests)

@@ -140,7 +140,7 @@ pub fn command_from(heap: Global, words: &[&[u8]]) -> Result<Command, LineError>
     let form = form_of(words)?;
     let rest = words_from(words, form.name_length());
     if !form.takes(rest.len()) {
-        return Err(LineError::Fault(Expected::Words(form)));
+        return Err(Expected::Words(form).into());
     }
     let numbers = numbers_of(heap, form, rest)?;
     Ok(command_of(heap, form, &numbers)?)

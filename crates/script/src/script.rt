@@ -22,7 +22,7 @@ fn read_line(heap: Global, line: &[u8], open: bool) -> Result<Option<Command>, L
     }
     let command = command_from(heap, &words)?;
     if command.needs_sheet() && !open {
-        return Err(LineError::Fault(Expected::OpenSheet));
+        return Err(Expected::OpenSheet.into());
     }
     Ok(Some(command))
 }
