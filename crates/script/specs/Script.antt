@@ -5,17 +5,16 @@
 --   script_of text      what the whole text says: its lines are numbered from 1, and no sheet is open before them
 --   Reads want r        the answer r is want, unless memory ran out
 -- Assumes nothing.
-use Rattle.std.specs.Prelude.{◌≡◌, ℕ, ◌+◌, Bool, false, cond, not, ◌&&◌, ◌||◌, List, [], ◌∷◌, map, Some, None, Ok, Err, vec_items, Option, Result, Vec}
+use Rattle.std.specs.Prelude.{ℕ, ◌+◌, Bool, false, cond, not, ◌&&◌, ◌||◌, List, [], ◌∷◌, map, Some, None, Ok, Err, vec_items, Option, Result, Vec}
 use Rattle.std.specs.declared.alloc.Global.{Global}
 use Rattle.script.specs.declared.command.Command.{Command}
 use Rattle.script.specs.declared.fault.Expected.{Expected}
 use Rattle.script.specs.declared.fault.Expected.TheVariants.{OpenSheet}
-use Rattle.script.specs.declared.fault.Unread.TheVariants.{Fault, Memory}
 use Rattle.script.specs.declared.fault.ScriptFault.{ScriptFault}
 use Rattle.script.specs.Calls.{call_of}
 use Rattle.script.specs.Commands.{Meaning, meant, needs_sheet, opens_sheet}
 use Rattle.script.specs.Cuts.{lines_of, words_of}
-use Rattle.script.specs.Faults.{ReadError}
+use Rattle.script.specs.Faults.{ReadError, Gives}
 
 -- a call, where it may stand
 abbrev pub permitted : Bool → Result Meaning Expected → Result (Option Meaning) Expected
@@ -51,6 +50,4 @@ abbrev pub script_of : List ℕ → Script
 script_of text = script_from false 1 (lines_of text)
 
 abbrev pub Reads : Script → Result (Vec Command Global) ReadError → Type 0
-Reads want (Ok v) = want ≡ Ok (map meant (vec_items v))
-Reads want (Err (Fault f)) = want ≡ Err f
-Reads want (Err Memory) = Unit {0}
+Reads want r = Gives (λ v. map meant (vec_items v)) want r

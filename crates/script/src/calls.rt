@@ -62,6 +62,8 @@ fn weights_at(numbers: &[u32], i: usize) -> Triple
     }
 }
 
+// This and the two below ask for as many numbers as a form counts, each for a form of its own type: a struct of a
+// form and its numbers would be three, each made and taken apart once.
 fn kind_of(kind: LatticeKind, numbers: &[u32]) -> Kind<Triple>
     requires { lattice_count kind ≤ length numbers.now }
     ensures { result ≡ kind_of kind numbers.now }
