@@ -42,14 +42,15 @@ impl<'a> Desk<'a> {
     // Makes a call and prints its answer.
     pub fn perform(&mut self, rt: &HostRuntime, call: SheetCall) -> io::Result<()> {
         match call {
-            SheetCall::Edit(edit) => say::first_worked(rt, self.sheet.edit(edit)),
-            SheetCall::Back { steps } => say::first_worked(
+            SheetCall::Edit(edit) => say::answer(rt, "w ", self.sheet.edit(edit)),
+            SheetCall::Back { steps } => say::answer(
                 rt,
+                "w ",
                 self.sheet.back(steps, self.values.as_mut_slice(), self.marks.as_mut_slice()),
             ),
-            SheetCall::Read { step, node } => say::entry(rt, self.read(step, node)),
-            SheetCall::Cost => say::costs(rt, self.sheet.cost()),
-            SheetCall::Fit { price } => say::fitted(rt, self.sheet.fit(price)),
+            SheetCall::Read { step, node } => say::answer(rt, "", self.read(step, node)),
+            SheetCall::Cost => println!(rt; "{}", self.sheet.cost()),
+            SheetCall::Fit { price } => say::answer(rt, "spread ", self.sheet.fit(price)),
             SheetCall::Strike => say::struck(rt, self.sheet.strike(self.values.as_slice())),
             SheetCall::Table => table::print(rt, self),
         }

@@ -21,21 +21,21 @@ pub fn run(rt: &HostRuntime, commands: &[Command]) -> io::Result<()> {
     for command in commands {
         match command {
             Command::Lattice { kind, steps, rates } => {
-                match Tree::check(*kind, *steps, rates.as_slice()) {
-                    Ok(kind) => {
-                        lattice = Tree::new(kind, *steps, rates.as_slice());
-                        say::nodes(rt, all_nodes(&lattice))?;
+                match Tree::try_new(*kind, *steps, rates.as_slice()) {
+                    Ok(named) => {
+                        lattice = named;
+                        println!(rt; "nodes {}", all_nodes(&lattice))?;
                     }
-                    Err(fault) => say::refused_lattice(rt, fault)?,
+                    Err(fault) => say::refused(rt, &fault)?,
                 }
             }
             Command::Clash(rule) => {
                 clash = *rule;
-                say::clash(rt, clash)?;
+                println!(rt; "clash {clash}")?;
             }
             Command::Open => {
                 desk = Desk::open(heap, lattice, clash)?;
-                say::first_worked(rt, Ok(desk.first_worked()))?;
+                println!(rt; "w {}", desk.first_worked())?;
             }
             Command::Sheet(call) => desk.perform(rt, *call)?,
         }

@@ -1,25 +1,19 @@
 // The worked nodes of a sheet as a table for people.
 use crate::desk::Desk;
+use game::mark::Mark;
 use lattice::Lattice;
 use sheet::Entry;
 use std::io;
 
-// From the byte of a row, which is the host's and may hold any: so a byte is matched here, and not a `Mark`.
-fn mark_name(mark: u8) -> &'static str {
-    match mark {
-        0 => "-",
-        1 => "call",
-        2 => "put",
-        3 => "both",
-        _ => "?",
-    }
-}
-
+// A mark row is the host's, so its byte may be no mark.
 fn line(rt: &HostRuntime, t: usize, j: usize, entry: Entry) -> io::Result<()> {
     let whole = entry.figure / 10_000;
     let rest = entry.figure % 10_000;
-    let mark = mark_name(entry.mark);
-    println!(rt; "{t:>4} {j:>5} {whole:>8}.{rest:04}  {mark}")
+    print!(rt; "{t:>4} {j:>5} {whole:>8}.{rest:04}  ")?;
+    match Mark::try_from(entry.mark) {
+        Ok(mark) => println!(rt; "{mark}"),
+        Err(_) => rt.println("?"),
+    }
 }
 
 pub fn print(rt: &HostRuntime, desk: &Desk) -> io::Result<()> {
