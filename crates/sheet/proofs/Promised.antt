@@ -41,6 +41,19 @@ edit_made m σ e s s' n w last none is first =
       admits = λ a. subst (λ x. Admitted m.steps x.terms x.spread) (sym is') (edit_admits m.steps s e none' a);
     }
 
+-- a refused edit
+pub edit_refused : (m : Model) (σ : ℕ → ℕ → ℕ) (e : Edit) (s s' : State) (n : ℕ) (f : SheetFault) (r : Result ℕ SheetFault) → n ≡ m.steps → r ≡ Err f → Err f ≡ tested (edit_fault n s e) → s' ≡ unless (edit_fault n s e) (edited n s e) s → Edited m σ e s r s'
+edit_refused m σ e s s' n f r last is why left =
+    let some : edit_fault n s e ≡ Some f = tested_some (edit_fault n s e) f why in
+    let some' : edit_fault m.steps s e ≡ Some f = ap (λ k. edit_fault k s e) (sym last) ∙ some in
+    let same : s' ≡ s = left ∙ ap (λ o. unless o (edited n s e) s) some in
+    record {
+      answers = ap (told sheet_refusal) is ∙ ap (λ o. answer o (edited m.steps s e).first) (sym some');
+      leaves = same ∙ ap (λ o. unless o (edited m.steps s e) s) (sym some');
+      keeps = λ values marks st. subst (λ x. Standing m σ x values marks) (sym same) st;
+      admits = λ a. subst (λ x. Admitted m.steps x.terms x.spread) (sym same) a;
+    }
+
 -- rows that pass are long enough
 pub rows_long : (m : Model) (values marks : List ℕ) → rows_fault m values marks ≡ None → (all_nodes m ≤ length values) × (all_nodes m ≤ length marks)
 rows_long m values marks long =

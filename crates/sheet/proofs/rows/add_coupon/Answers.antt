@@ -2,7 +2,6 @@ use Rattle.std.proofs.Common.{◌≡◌, ℕ, ◌+◌, get_or, set, ap, ◌∙�
 use Rattle.std.proofs.lemmas.List.{get_or_default}
 use Rattle.std.proofs.lemmas.List.Edits.{map_over_more}
 use Rattle.rates.specs.Model.{capped}
-use Rattle.sheet.proofs.Tables.{mapped_all}
 use Rattle.sheet.proofs.rows.add_coupon.Goals as goal
 
 pub loop-x-preserved : goal.loop-x-preserved
@@ -13,6 +12,3 @@ loop-x-preserved c =
     let e : c.min-in-loop-x.result ≡ capped (x + c.args.coupon) = omega arith in
     ap (set c.loop-x.row i) e
     ∙ map_over_more f c.args.row.now c.loop-x.row i x (omega arith) c.loop-x.invariant (get_or_default c.loop-x.row i 0 x (omega arith))
-
-pub returns : goal.returns
-returns c = c.loop-x.invariant ∙ mapped_all (λ v. capped (v + c.args.coupon)) c.args.row.now c.loop-x.x-index (omega arith)

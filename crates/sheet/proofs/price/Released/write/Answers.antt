@@ -1,4 +1,4 @@
-use Rattle.std.proofs.Common.{◌≡◌, ℕ, ◌+◌, ◌^◌, ◌<◌, ◌≤◌, true, leb, List, length, decimal, ap, ◌∙◌, set, arith, length-set, rules}
+use Rattle.std.proofs.Common.{◌≡◌, ℕ, ◌+◌, ◌^◌, ◌<◌, ◌≤◌, true, leb, List, length, decimal, ap, ◌∙◌, set, arith, rules}
 use Rattle.std.proofs.lemmas.Fmt.{length-decimal-le}
 use Rattle.std.proofs.lemmas.Bool.{le-leb}
 use Rattle.sheet.specs.Prices.{laid}
@@ -7,24 +7,6 @@ use Rattle.sheet.proofs.price.Released.write.Goals as goal
 
 short : (n : ℕ) → n < 2 ^ 32 → length (decimal n) ≤ 10
 short n h = length-decimal-le 10 n (omega arith) (omega arith) (omega arith)
-
-pub lay-blank-requires : goal.lay-blank-requires
-lay-blank-requires c = omega (arith, short c.args.self.now.figure (search rules))
-
-pub bounds-out-blank : goal.bounds-out-blank
-bounds-out-blank c = omega (arith, short c.args.self.now.figure (search rules))
-
-pub overflow_add-blank : goal.overflow_add-blank
-overflow_add-blank c = omega (arith, short c.args.self.now.figure (search rules))
-
-pub lay-end-requires : goal.lay-end-requires
-lay-end-requires c = simp length-set (omega (arith, short c.args.self.now.figure (search rules), short c.args.self.now.spread (search rules)))
-
-pub bounds-out-end : goal.bounds-out-end
-bounds-out-end c = let e = length-set c.lay-blank.new.out c.lay-blank.result 32 in omega (arith, short c.args.self.now.figure (search rules), short c.args.self.now.spread (search rules))
-
-pub overflow_add-result : goal.overflow_add-result
-overflow_add-result c = omega (arith, short c.args.self.now.figure (search rules), short c.args.self.now.spread (search rules))
 
 pub returns : goal.returns
 returns c =

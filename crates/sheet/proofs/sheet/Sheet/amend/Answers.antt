@@ -1,8 +1,9 @@
-use Rattle.std.proofs.Common.{◌≡◌, sym, refl, ap, ◌∙◌, subst, arith}
+use Rattle.std.proofs.Common.{◌≡◌, Err, sym, refl, ap, ◌∙◌, subst, arith}
+use Rattle.std.proofs.lemmas.Result.{err_from_is_err_and}
 use Rattle.sheet.specs.Edits.{edit_fault, edited}
 use Rattle.sheet.specs.Faults.{unless}
 use Rattle.sheet.proofs.Validity.{Valid, edited_valid}
-use Rattle.sheet.proofs.Promised.{tested_none, unless_keeps, edit_made}
+use Rattle.sheet.proofs.Promised.{tested_none, unless_keeps, edit_made, edit_refused}
 use Rattle.sheet.proofs.sheet.Sheet.amend.Goals as goal
 
 pub invariant_of-self : goal.invariant_of-self
@@ -15,6 +16,15 @@ invariant_of-self g c =
     let is : c.amend.new.self ≡ unless (edit_fault n s.state e) (edited n s.state e) s.state = c.amend.ensures.leaves in
     let v = subst Valid (sym is) (unless_keeps Valid _ _ _ (λ none. edited_valid n s.state e (omega arith) none valid) valid) in
     record { early = v.early; narrow = v.narrow; redeemable = v.redeemable; payable = v.payable; priced = v.priced }
+
+pub returns-in_err-amend : goal.returns-in_err-amend
+returns-in_err-amend g c =
+    let s = c.args.self.now in
+    let p = err_from_is_err_and c.from_residual.result c.from_residual.ensures.1 in
+    record {
+      edited = edit_refused (g.L.Lattice.model s.lattice) (g.K.ClashRule.settled s.clash) c.args.edit s.state c.amend.new.self c.steps-last.result c.in_err-amend.field-0.0 c.from_residual.result c.steps-last.ensures (p.1 ∙ ap Err p.2) c.in_err-amend.ensures.answers c.amend.ensures.leaves;
+      same = (refl, refl);
+    }
 
 pub returns : goal.returns
 returns g c =

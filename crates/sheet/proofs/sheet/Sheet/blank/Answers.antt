@@ -1,4 +1,4 @@
-use Rattle.std.proofs.Common.{◌≡◌, sym, ap, ◌∙◌, subst, arith}
+use Rattle.std.proofs.Common.{◌≡◌, sym, ap, subst, arith}
 use Rattle.sheet.specs.Edits.{opened}
 use Rattle.sheet.specs.Admits.{Admitted}
 use Rattle.sheet.proofs.Admitting.{opened_admitted, none_clear}
@@ -18,6 +18,3 @@ invariant_of-result g c =
       payable = λ t. none_clear _ (a.coupons t);
       priced = λ kind t. none_clear _ (a.rights kind t);
     }
-
-pub returns : goal.returns
-returns g c = record { steps = c.steps-steps.ensures; state = c.opened.ensures ∙ ap opened c.steps-steps.ensures }

@@ -1,18 +1,9 @@
-use Rattle.std.proofs.Common.{◌≡◌, ◌+◌, ◌-◌, ◌≤◌, map, length, take, ap, ◌∙◌, arith, rules}
+use Rattle.std.proofs.Common.{◌≡◌, ◌+◌, ◌-◌, ◌≤◌, map, length, take, ap, ◌∙◌, arith}
 use Rattle.std.specs.List.{range_with_len}
-use Rattle.std.proofs.lemmas.List.{places, take_at, length-map, length-take-le}
+use Rattle.std.proofs.lemmas.List.{take_at, length-map, length-take-le}
 use Rattle.game.proofs.Rows.{count_few}
 use Rattle.sheet.proofs.Rolling.{rolled_node}
 use Rattle.sheet.proofs.valuation.Valuation.roll_back.Goals as goal
-
-pub slice_bounds-next-end : goal.slice_bounds-next-end
-slice_bounds-next-end g c = let w : c.nodes-w.result ≤ 129 = omega (arith, count_few (g.L.Lattice.lawful c.args.self.now.lattice.now) (c.args.t + 1)) in search rules
-
-pub slice_bounds-roll_row-end : goal.slice_bounds-roll_row-end
-slice_bounds-roll_row-end g c = let w : c.nodes-w.result ≤ 129 = omega (arith, count_few (g.L.Lattice.lawful c.args.self.now.lattice.now) (c.args.t + 1)) in search (rules, places)
-
-pub slice_bounds-roll_row-end-2 : goal.slice_bounds-roll_row-end-2
-slice_bounds-roll_row-end-2 g c = let n : c.nodes-n.result ≤ 129 = omega (arith, count_few (g.L.Lattice.lawful c.args.self.now.lattice.now) c.args.t) in search rules
 
 pub returns : goal.returns
 returns g c =
