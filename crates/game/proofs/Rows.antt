@@ -2,7 +2,7 @@
 use Rattle.std.proofs.Common.{◌≡◌, ℕ, zero, suc, ◌+◌, ◌-◌, ◌*◌, ◌<◌, ◌≤◌, List, map, ◌++◌, length, get_or, take, drop, sym, refl, ap, ◌∙◌, ⊎_elim, append_assoc, add-one, arith}
 use Rattle.std.specs.List.{sum, range_with_len}
 use Rattle.std.proofs.lemmas.List.FromFn.{length-map-range_with_len, get_or-map-range_with_len, sum_by-map-range_with_len_more}
-use Rattle.std.proofs.lemmas.List.{length-append, length-take-le, get_or_append_left, get_or-append_right, get_or-drop, get_or-take, take-append-drop, take-append-le, take-take, drop_at}
+use Rattle.std.proofs.lemmas.List.{length-append, length-take-le, get_or_append_left, get_or-append_right, get_or-drop, take-append-drop, take-append-le, take-take, drop_at}
 use Rattle.std.proofs.lemmas.Bool.{cases_lt, cases_order}
 use Rattle.rates.specs.Model.{Model, Lawful}
 use Rattle.game.specs.Stored.{offset, all_nodes, stored, step_row, laid, rewritten}
@@ -94,12 +94,6 @@ module _ (m : Model) (f : ℕ → ℕ → ℕ) where
       ∙ get_or-append_right (laid m f t n) (drop (offset m (t + n)) row) (length (laid m f t n)) (i - offset m t) 0 refl (omega arith)
       ∙ get_or-drop (offset m (t + n)) row (i - offset m t - length (laid m f t n)) 0
       ∙ ap (λ k. get_or row k 0) (omega arith)
-
-  -- the nodes below them
-  pub rewritten_below : (row : List ℕ) (n t i : ℕ) → offset m t ≤ length row → i < offset m t → get_or (rewritten m row f t n) i 0 ≡ get_or row i 0
-  rewritten_below row n t i l h =
-      get_or_append_left (take (offset m t) row) (laid m f t n ++ drop (offset m (t + n)) row) 0 i (omega (arith, length-take-le (offset m t) row l))
-      ∙ get_or-take (offset m t) row i 0 h
 
   -- nothing rewritten
   pub rewritten_none : (row : List ℕ) (t : ℕ) → row ≡ rewritten m row f t 0

@@ -1,10 +1,7 @@
 -- Bytes written over others, piece after piece. Assumes nothing.
-use Rattle.std.proofs.Common.{◌≡◌, ℕ, suc, ◌+◌, ◌<◌, ◌≤◌, List, [], ◌∷◌, ◌++◌, length, get_or, take, drop, set, sym, ap, ◌∙◌, arith}
-use Rattle.std.proofs.lemmas.List.{append_assoc, length-append, length-take-le, length-drop, length_push, drop_more, set_at, take_at, drop_at, drop-drop, set_split}
+use Rattle.std.proofs.Common.{◌≡◌, ℕ, ◌+◌, ◌<◌, ◌≤◌, List, [], ◌∷◌, ◌++◌, length, get_or, take, drop, set, sym, ap, ◌∙◌, arith}
+use Rattle.std.proofs.lemmas.List.{append_assoc, length-append, length-take-le, length_push, drop_more, set_at, take_at, drop_at, drop-drop}
 use Rattle.sheet.specs.Prices.{laid}
-
-pub length_laid : (d : List ℕ) (at : ℕ) (s : List ℕ) → at + length s ≤ length d → length (laid d at s) ≡ length d
-length_laid d at s h = let a : at ≤ length d = omega arith in simp (length-append, length-take-le, length-drop) (omega arith)
 
 -- what stands before the place after s, and after it
 front : (d : List ℕ) (at : ℕ) (s : List ℕ) → at ≤ length d → length (take at d ++ s) ≡ at + length s
@@ -37,10 +34,6 @@ laid_laid d at s t h =
     ∙ ap (λ (x : List ℕ). (take at d ++ s) ++ (t ++ x)) r
     ∙ append_assoc (take at d) s _
     ∙ ap (λ (x : List ℕ). take at d ++ x) (sym (append_assoc s t _))
-
--- one byte
-pub laid_one : (d : List ℕ) (at b : ℕ) → at < length d → set d at b ≡ laid d at (b ∷ [])
-laid_one d at b h = let e : suc at ≡ at + 1 = omega arith in set_split d at b h ∙ ap (λ (x : ℕ). take at d ++ (b ∷ drop x d)) e
 
 -- two numbers with a byte after each
 pub two_words : (d o1 o2 f s : List ℕ) (a e : ℕ) → length f ≤ 10 → length s ≤ 10 → 64 ≤ length d → o1 ≡ laid d 0 f → a ≡ 0 + length f → o2 ≡ laid (set o1 a 32) (a + 1) s → e ≡ a + 1 + length s → (e + 1 ≡ length (f ++ (32 ∷ (s ++ (10 ∷ []))))) × (set o2 e 10 ≡ (f ++ (32 ∷ (s ++ (10 ∷ [])))) ++ drop (length (f ++ (32 ∷ (s ++ (10 ∷ []))))) d)
