@@ -5,5 +5,6 @@ pub mod Listing
 pub mod Turning
 pub mod Whole
 pub mod Writing
+pub mod Putting
 pub mod Filling
 pub mod Promised

@@ -8,10 +8,13 @@ use Rattle.sheet.specs.declared.fault.SheetFault.{SheetFault}
 use Rattle.sheet.specs.declared.fault.SheetFault.TheVariants.{Step}
 use Rattle.sheet.specs.Faults.{sheet_refusal, answer, unless}
 use Rattle.sheet.specs.Calls.{adopt_fault}
+use Rattle.sheet.specs.Admits.{Admitted}
 use Rattle.sheet.specs.Promises.{Adopted}
 use Rattle.record.specs.declared.fault.RecordFault.{RecordFault}
 use Rattle.record.specs.declared.fault.RecordFault.TheVariants.{Output}
-use Rattle.record.specs.Cuts.{Wrote}
+use Rattle.record.specs.declared.writer.Writer.{Writer}
+use Rattle.record.specs.Cuts.{written}
+use Rattle.record.specs.Puts.{Put}
 use Rattle.record.specs.Faults.{record_refusal}
 use Rattle.record.specs.Encode.{encode}
 use Rattle.record.specs.Decode.{then, under, decode}
@@ -19,9 +22,12 @@ use Rattle.record.specs.Promises.{Loaded, put_in_force, Saved}
 use Rattle.record.proofs.Listing.{Bytes}
 use Rattle.record.proofs.Whole.{decode_encode, encode_decode}
 
-module _ (s : State) (out : List ℕ) (coupons : length s.terms.coupons ≡ 65) (calls : length s.terms.calls ≡ 64) (puts : length s.terms.puts ≡ 64) (n : ℕ) where
+module _ (s : State) (out : List ℕ) (tables : (length s.terms.coupons ≡ 65) × (length s.terms.calls ≡ 64) × (length s.terms.puts ≡ 64)) (n : ℕ) where
   abbrev bytes : List ℕ
   bytes = encode s.terms s.spread
+
+  loads_back : Admitted n s.terms s.spread → decode n bytes ≡ Ok (s.terms, s.spread)
+  loads_back ok = decode_encode n s.terms s.spread ok tables.0 tables.1 tables.2
 
   pub saved_not : {needed : ℕ} → needed ≡ length bytes → length out < needed → Saved n s out (Err (Output needed)) out
   saved_not e h =
@@ -29,16 +35,19 @@ module _ (s : State) (out : List ℕ) (coupons : length s.terms.coupons ≡ 65) 
       record {
         answers = ap (λ k. told {X = ℕ} record_refusal (Err (Output k))) e ∙ ap (λ b. told record_refusal (cond b (Err (Output (length bytes))) (Ok (length bytes)))) (sym short);
         bytes = ap (λ b. cond b out (bytes ++ drop (length bytes) out)) (sym short);
-        loads_back = λ ok. decode_encode n s.terms s.spread ok coupons calls puts;
+        loads_back = loads_back;
       }
 
-  pub saved_whole : {needed : ℕ} (next : ℕ) (after : List ℕ) → needed ≡ length bytes → needed ≤ length out → Wrote bytes 0 out after next → Saved n s out (Ok next) after
-  saved_whole next after e h w =
-      let room : ltb (length out) (length bytes) ≡ false = ap (ltb (length out)) (sym e) ∙ le-ltb _ _ h in
+  -- by a writer from the front of the output, which is what the writer leaves then
+  pub saved_whole : {needed : ℕ} {all after : List ℕ} {v w : Writer} → needed ≡ length all → all ≡ bytes → needed ≤ length out → v.out.now ≡ out → v.at ≡ 0 → Put all v w → after ≡ w.out.now → Saved n s out (Ok needed) after
+  saved_whole {v = v} e b h same front p left =
+      let k = e ∙ ap length b in
+      let room : ltb (length out) (length bytes) ≡ false = ap (ltb (length out)) (sym k) ∙ le-ltb _ _ h in
+      let is = left ∙ p.wrote.all ∙ (λ i. written (front i) (b i) (same i)) in
       record {
-        answers = ap (λ k. told record_refusal (Ok k)) (w.end ∙ zero-add (length bytes)) ∙ ap (λ b. told record_refusal (cond b (Err (Output (length bytes))) (Ok (length bytes)))) (sym room);
-        bytes = w.all ∙ ap (λ k. bytes ++ drop k out) (zero-add (length bytes)) ∙ ap (λ b. cond b out (bytes ++ drop (length bytes) out)) (sym room);
-        loads_back = λ ok. decode_encode n s.terms s.spread ok coupons calls puts;
+        answers = ap (λ k. told record_refusal (Ok k)) k ∙ ap (λ b. told record_refusal (cond b (Err (Output (length bytes))) (Ok (length bytes)))) (sym room);
+        bytes = is ∙ ap (λ k. bytes ++ drop k out) (zero-add (length bytes)) ∙ ap (λ b. cond b out (bytes ++ drop (length bytes) out)) (sym room);
+        loads_back = loads_back;
       }
 
 -- the numbers of a list of bytes

@@ -4,6 +4,7 @@
 --   coupons_in, rights_in      the entries of the two kinds of tables
 --   coupon_bytes, right_bytes  an entry
 --   list_bytes, word_bytes     a field
+--   some_word                  a word that may be absent
 --   map_byte                   the map of the fields that are there
 --   encode                     the whole record
 -- Assumes nothing.
@@ -46,6 +47,10 @@ some (x ∷ xs) = true
 -- a list's field: its count and its entries
 abbrev pub list_bytes : {E : Type 0} → (ℕ × E → List ℕ) → List (ℕ × E) → List ℕ
 list_bytes f es = cond (some es) (length es ∷ flat_map f es) []
+
+abbrev pub some_word : Option ℕ → List ℕ
+some_word None = []
+some_word (Some v) = bytes4 v
 
 abbrev pub word_bytes : Bool → ℕ → List ℕ
 word_bytes present v = cond present (bytes4 v) []

@@ -4,3 +4,4 @@ pub mod Decode
 pub mod Encode
 pub mod Fills
 pub mod Promises
+pub mod Puts

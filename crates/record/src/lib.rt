@@ -1,7 +1,10 @@
 // The term record: the bytes of a sheet's terms and spread.
 #![tactic(auto)]
 
+mod cell;
+mod entries;
 mod fault;
+mod field;
 mod fields;
 mod loading;
 mod parts;
@@ -9,6 +12,7 @@ mod placed;
 mod reader;
 mod reading;
 mod saving;
+mod writer;
 
 pub use fault::RecordFault;
 pub use loading::load;
