@@ -6,5 +6,6 @@ pub mod Turning
 pub mod Whole
 pub mod Writing
 pub mod Putting
-pub mod Filling
+pub mod Accepting
+pub mod Stages
 pub mod Promised

@@ -1,7 +1,6 @@
 -- Each kind of list read back from its bytes, and written again.
 use Rattle.std.proofs.Common.{◌≡◌, ℕ, suc, ◌+◌, ◌<◌, ◌≤◌, Bool, true, false, cond, ◌||◌, eqb, ltb, List, [], ◌∷◌, ◌++◌, length, get_or, drop, replicate, Some, None, Ok, Err, Option, Result, sym, refl, ap, ◌∙◌, subst, add-zero, arith}
 use Rattle.std.proofs.lemmas.Bool.{eqb-true, ltb-false, or_parts, le-ltb}
-use Rattle.std.proofs.lemmas.Bool.Decides.{nat_tests}
 use Rattle.game.specs.declared.terms.Right.{Right}
 use Rattle.sheet.specs.declared.fault.SheetFault.{SheetFault}
 use Rattle.sheet.specs.Faults.{tested}
@@ -10,6 +9,7 @@ use Rattle.record.specs.declared.fault.RecordFault.{RecordFault}
 use Rattle.record.specs.declared.fault.RecordFault.TheVariants.{Form}
 use Rattle.record.specs.Decode.{word, yields, under, checked, coupon_form, right_form, granted, list_at}
 use Rattle.record.specs.Encode.{bytes4, coupon_bytes, right_bytes, entered, entries_of, nonzero, some, list_bytes}
+use Rattle.record.specs.Enters.{coupon_low, right_low}
 use Rattle.record.proofs.Tables.{filled, Climbs, filled_entries, entries_from_blank}
 use Rattle.record.proofs.Listing.{then_ok, bytes4_word, word_bytes4, Bytes, list_read, list_back}
 
@@ -102,9 +102,6 @@ module _ {E A : Type 0} (l : Listed E A) (src : List ℕ) where
       (ap some same ∙ b.shows, b.split ∙ ap (λ es. list_bytes l.bytes es ++ drop next src) (sym same))
 
 -- coupons
-pub coupon_low : (n t a : ℕ) → coupon_fault n t a ≡ None → (t ≤ n) × (a ≤ 10000000)
-coupon_low n t a e = (grind (arith, nat_tests), grind (arith, nat_tests))
-
 pub nonzero_is : (a e : ℕ) → nonzero a ≡ Some e → (eqb e 0 ≡ false) × (e ≡ a)
 nonzero_is a e h = way (eqb a 0) refl h
   where
@@ -156,9 +153,6 @@ coupons_listed n = record {
 }
 
 -- rights
-pub right_low : (n t p k : ℕ) → right_fault n t p k ≡ None → (t < n) × (p ≤ 10000000)
-right_low n t p k e = (grind (arith, nat_tests), grind (arith, nat_tests))
-
 pub right_form_bytes : (n floor place : ℕ) (e : ℕ × Right) → floor ≤ e.0 → Some e.1 ≡ Some e.1 → right_fault n e.0 e.1.price e.1.notice ≡ None → right_form floor place (right_bytes e) ≡ Ok e
 right_form_bytes n floor place e f g z =
     let h = right_low n e.0 e.1.price e.1.notice z in

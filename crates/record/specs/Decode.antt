@@ -4,7 +4,7 @@
 --   then                    going on with what was read, or stopping at the first fault
 --   reads, yields           what a call read, with what it left; what it left alone
 --   under                   a result of the sheet, whose fault is kept whole and gets the place of the part
---   map_form .. right_form  what the bytes of a part say, unless they break the form
+--   byte_form .. right_form  what the bytes of a part say, unless they break the form
 --   checked                 a part of good form, unless the sheet turns it down
 --   part_at                 the part of k bytes at a place, and the place after it
 --   entry_at                one entry entered in a table: the next floor, the table and the place after it
@@ -40,15 +40,18 @@ under place (Ok x) = Ok x
 under place (Err f) = Err (Term place f)
 
 -- what a part says, from its place and its bytes
+abbrev pub byte_form : (ℕ → Bool) → ℕ → List ℕ → Result ℕ RecordFault
+byte_form bad place bs = cond (bad (slice_index bs 0)) (Err (Form place)) (Ok (slice_index bs 0))
+
 abbrev pub map_form : ℕ → List ℕ → Result ℕ RecordFault
-map_form place bs = cond (nat_le 32 (slice_index bs 0)) (Err (Form place)) (Ok (slice_index bs 0))
+map_form = byte_form (nat_le 32)
 
 -- what an absent field means is never written
 abbrev pub word_form : ℕ → ℕ → List ℕ → Result ℕ RecordFault
 word_form absent place bs = cond (word 0 bs == absent) (Err (Form place)) (Ok (word 0 bs))
 
 abbrev pub count_form : ℕ → List ℕ → Result ℕ RecordFault
-count_form place bs = cond (slice_index bs 0 == 0) (Err (Form place)) (Ok (slice_index bs 0))
+count_form = byte_form (λ b. b == 0)
 
 -- an entry: its step and what stands there
 abbrev pub coupon_form : ℕ → ℕ → List ℕ → Result (ℕ × ℕ) RecordFault

@@ -3,5 +3,7 @@ pub mod Faults
 pub mod Decode
 pub mod Encode
 pub mod Fills
+pub mod Enters
+pub mod Filled
 pub mod Promises
 pub mod Puts

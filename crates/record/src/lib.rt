@@ -6,12 +6,13 @@ mod entries;
 mod fault;
 mod field;
 mod fields;
+mod filling;
+mod listed;
 mod loading;
-mod parts;
 mod placed;
 mod reader;
-mod reading;
 mod saving;
+mod word;
 mod writer;
 
 pub use fault::RecordFault;

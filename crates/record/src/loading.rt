@@ -1,32 +1,36 @@
 // Puts the terms and the spread of a record in force.
-ghost use Rattle.std.specs.Prelude.{◌≡◌};
+ghost use Rattle.std.specs.Prelude.{◌≡◌, IfOk};
 ghost use Rattle.sheet.specs.Edits.{opened};
-ghost use Rattle.record.specs.Decode.{yields, decode};
+ghost use Rattle.record.specs.Decode.{then, decode};
 ghost use Rattle.record.specs.Promises.{Loaded};
 
 use crate::fault::RecordFault;
 use crate::fields::Fields;
+use crate::filling::Filling;
+use crate::listed::Coupons;
 use crate::placed::at_place;
 use crate::reader::Reader;
+use crate::word::Word;
 use game::clash::ClashRule;
 use game::terms::Kind;
 use lattice::Lattice;
 use sheet::{Draft, Sheet};
 
 // Reads a record into a draft in which nothing stands yet.
-fn fill(draft: &mut Draft, bytes: &[u8]) -> Result<(), RecordFault>
-    requires { draft.old.state ≡ opened draft.old.steps }
-    ensures steps { draft.new.steps ≡ draft.old.steps }
-    ensures filled { yields result (draft.new.state.terms, draft.new.state.spread) ≡ decode draft.old.steps bytes.now }
+fn fill(draft: Draft, bytes: &[u8]) -> Result<Draft, RecordFault>
+    requires { draft.state ≡ opened draft.steps }
+    ensures steps { IfOk result (λ d. d.steps ≡ draft.steps) }
+    ensures filled { then result (λ d. Ok (d.state.terms, d.state.spread)) ≡ decode draft.steps bytes.now }
 {
     let mut reader = Reader::new(bytes);
-    let mut fields = Fields::new(reader.map()?);
-    reader.redemption(fields.take(), draft)?;
-    reader.spread(fields.take(), draft)?;
-    reader.coupons(fields.take(), draft)?;
-    reader.rights(Kind::Call, fields.take(), draft)?;
-    reader.rights(Kind::Put, fields.take(), draft)?;
-    reader.end()
+    let mut fields = Fields::new(reader.byte_unless(|map| map >= 32)?);
+    let mut filling = Filling { reader, draft };
+    filling.word(Word::Redemption, fields.take())?;
+    filling.word(Word::Spread, fields.take())?;
+    filling.list(Coupons, fields.take())?;
+    filling.list(Kind::Call, fields.take())?;
+    filling.list(Kind::Put, fields.take())?;
+    filling.end()
 }
 
 // Puts the terms and the spread of a record in force, of which nothing is worked then, and answers the first worked step.
@@ -47,7 +51,6 @@ fn load_sheet<L: Lattice, K: ClashRule>(
     ensures loaded { Loaded (L.Lattice.model sheet.old.lattice) (K.ClashRule.settled sheet.old.clash) bytes.now sheet.old.state result sheet.new.state }
     ensures same { (sheet.new.lattice ≡ sheet.old.lattice) × (sheet.new.clash ≡ sheet.old.clash) }
 {
-    let mut draft = sheet.draft();
-    fill(&mut draft, bytes)?;
+    let draft = fill(sheet.draft(), bytes)?;
     at_place(sheet.adopt(draft), 0)
 }

@@ -1,7 +1,8 @@
 // A record that is read from the front, a part at a time.
-ghost use Rattle.std.specs.Prelude.{◌≡◌, ◌+◌, ◌<◌, ◌≤◌, length, MatchResult};
+ghost use Rattle.std.specs.Prelude.{◌≡◌, ℕ, Bool, ◌+◌, ◌<◌, ◌≤◌, length, MatchResult};
 ghost use Rattle.record.specs.declared.fault.RecordFault.TheVariants.{Short};
 ghost use Rattle.record.specs.Cuts.{Cut};
+ghost use Rattle.record.specs.Decode.{reads, part_at, byte_form};
 
 use crate::fault::RecordFault;
 
@@ -43,5 +44,20 @@ impl<'a> Reader<'a> {
             bytes: &src[at..at + n],
             place: at,
         })
+    }
+    // The next byte, unless it breaks the form.
+    pub(crate) fn byte_unless<F: FnOnce(u8) -> bool>(&mut self, bad: F) -> Result<u8, RecordFault>
+        requires { F.IsAlwaysCallable bad }
+        ensures kept { self.new.src.now ≡ self.old.src.now }
+        ensures got { (test : ℕ → Bool) → ((x : ℕ) (b : Bool) → x < 256 → F.post bad x b → b ≡ test x) → reads result self.new.at ≡ part_at 1 (byte_form test) self.old.src.now self.old.at }
+    {
+        let part = self.part(1)?;
+        let [byte, ..] = part.bytes else {
+            unreachable()
+        };
+        if bad(*byte) {
+            return Err(RecordFault::Form(part.place));
+        }
+        Ok(*byte)
     }
 }

@@ -7,10 +7,10 @@ pub returns : goal.returns
 returns g c =
     let s = c.args.sheet.now in
     let m = g.L.Lattice.model s.lattice in
-    let draft = c.fill.new.draft in
-    let steps = c.fill.ensures.steps ∙ c.draft-draft.ensures.steps in
+    let draft = c.in_ok-draft.draft in
+    let steps = c.in_ok-draft.ensures.steps ∙ c.draft.ensures.steps in
     let bytes = bytes_from c.args.bytes.now (λ i. omega (arith, c.type_inv.bytes i)) in
-    let dec = ap (λ n. decode n c.args.bytes.now) (sym c.draft-draft.ensures.steps) ∙ sym c.in_ok-fill.ensures.filled in
+    let dec = ap (λ n. decode n c.args.bytes.now) (sym c.draft.ensures.steps) ∙ sym c.in_ok-draft.ensures.filled in
     record {
       loaded = loaded_whole m (g.K.ClashRule.settled s.clash) c.args.bytes.now s.state draft.state c.adopt.result (g.L.Lattice.lawful s.lattice).few_steps bytes steps draft.unworked dec c.adopt.ensures.adopted c.at_place.ensures;
       same = c.adopt.ensures.same;

@@ -1,0 +1,90 @@
+-- A record that is read field by field: what is left to read, from the state that was reached.
+use Rattle.std.proofs.Common.{◌≡◌, ℕ, ◌/◌, ◌%◌, Bool, eqb, List, Ok, Err, Result, sym, refl, ap, ◌∙◌, arith}
+use Rattle.game.specs.declared.terms.Terms.{Terms}
+use Rattle.game.specs.declared.terms.Kind.TheVariants.{Call, Put}
+use Rattle.sheet.specs.declared.state.State.{State}
+use Rattle.sheet.specs.declared.draft.Draft.{Draft}
+use Rattle.sheet.specs.Edits.{opened}
+use Rattle.record.specs.declared.fault.RecordFault.{RecordFault}
+use Rattle.record.specs.declared.filling.Filling.{Filling}
+use Rattle.record.specs.Decode.{then, yields, part_at, map_form, redemption_at, spread_at, coupons_at, rights_at, end_at, odd, decode}
+use Rattle.record.specs.Fills.{Lens, with_redemption, with_spread, with_coupons, with_rights}
+use Rattle.record.specs.Filled.{Filled}
+use Rattle.record.proofs.Cutting.{went_on, stopped}
+
+module _ (n : ℕ) (src : List ℕ) where
+  abbrev pub Stage : Type 0
+  Stage = State → ℕ → Result (Terms × ℕ) RecordFault
+
+  abbrev pub from_end : Stage
+  from_end s at = then (end_at src at) (λ _. Ok (s.terms, s.spread))
+
+  abbrev pub from_puts : ℕ → Stage
+  from_puts m s at = then (rights_at n s.terms.puts (odd (m / 16)) src at) (λ x. from_end (with_rights Put s x.0) x.1)
+
+  abbrev pub from_calls : ℕ → Stage
+  from_calls m s at = then (rights_at n s.terms.calls (odd (m / 8)) src at) (λ x. from_puts m (with_rights Call s x.0) x.1)
+
+  abbrev pub from_coupons : ℕ → Stage
+  from_coupons m s at = then (coupons_at n s.terms.coupons (odd (m / 4)) src at) (λ x. from_calls m (with_coupons s x.0) x.1)
+
+  abbrev pub from_spread : ℕ → Stage
+  from_spread m s at = then (spread_at s.spread (odd (m / 2)) src at) (λ x. from_coupons m (with_spread s x.0) x.1)
+
+  abbrev pub from_redemption : ℕ → Stage
+  from_redemption m s at = then (redemption_at s.terms.redemption (odd m) src at) (λ x. from_spread m (with_redemption s x.0) x.1)
+
+  pub decode_staged : decode n src ≡ then (part_at 1 map_form src 0) (λ m. from_redemption m.0 (opened n) m.1)
+  unfolding decode
+  decode_staged = refl
+
+  -- what is left gives what the whole record gives
+  pub record Reached (stage : Stage) (f : Filling) : Type 0 where
+    pub kept : f.reader.src.now ≡ src
+    pub steps : f.draft.steps ≡ n
+    pub left : decode n src ≡ stage f.draft.state f.reader.at
+
+  module _ {X : Type 0} (field : Lens X) (read : ℕ → X → Bool → List ℕ → ℕ → Result (X × ℕ) RecordFault) (bit : Bool) (next : Stage) {a : Filling} (at : Reached (λ s p. then (read n (field.of s) bit src p) (λ x. next (field.with s x.0) x.1)) a) where
+    meant : {found : Bool} {q : Result (X × ℕ) RecordFault} → found ≡ bit → q ≡ read a.draft.steps (field.of a.draft.state) found a.reader.src.now a.reader.at → decode n src ≡ then q (λ x. next (field.with a.draft.state x.0) x.1)
+    meant same got = at.left ∙ ap (λ q. then q (λ x. next (field.with a.draft.state x.0) x.1)) (sym (got ∙ (λ i. read (at.steps i) (field.of a.draft.state) (same i) (at.kept i) a.reader.at)))
+
+    pub reached : {b : Filling} {found : Bool} {r : Result (Unit {0}) RecordFault} → found ≡ bit → Filled field a b → yields r (field.of b.draft.state, b.reader.at) ≡ read a.draft.steps (field.of a.draft.state) found a.reader.src.now a.reader.at → r ≡ Ok tt → Reached next b
+    reached {b} same filled got z = record {
+      kept = filled.kept ∙ at.kept;
+      steps = filled.steps ∙ at.steps;
+      left = meant same (sym (went_on z refl) ∙ got) ∙ ap (λ s. next s b.reader.at) (sym filled.leaves);
+    }
+
+    pub failed : (y : X × ℕ) {found : Bool} {r : Result (Unit {0}) RecordFault} {e : RecordFault} → found ≡ bit → yields r y ≡ read a.draft.steps (field.of a.draft.state) found a.reader.src.now a.reader.at → r ≡ Err e → decode n src ≡ Err e
+    failed y same got z = meant same (sym (stopped y z refl) ∙ got)
+
+  pub ended : {f : Filling} {r : Result Draft RecordFault} → Reached from_end f → r ≡ then (end_at f.reader.src.now f.reader.at) (λ _. Ok f.draft) → then {Y = Terms × ℕ} r (λ d. Ok (d.state.terms, d.state.spread)) ≡ decode n src
+  ended {f} at e =
+      ap (λ q. then {Y = Terms × ℕ} q (λ d. Ok (d.state.terms, d.state.spread))) e
+      ∙ way (end_at f.reader.src.now f.reader.at)
+      ∙ ap (λ l. then {Y = Terms × ℕ} (end_at l f.reader.at) (λ _. Ok (f.draft.state.terms, f.draft.state.spread))) at.kept
+      ∙ sym at.left
+    where
+      way : (q : Result (Unit {0}) RecordFault) → then {Y = Terms × ℕ} (then q (λ _. Ok f.draft)) (λ d. Ok (d.state.terms, d.state.spread)) ≡ then {Y = Terms × ℕ} q (λ _. Ok (f.draft.state.terms, f.draft.state.spread))
+      way (Ok u) = refl
+      way (Err d) = refl
+
+-- the bit of each field: b is what the bits are then, of the map m
+module _ (m : ℕ) {b0 : ℕ} (first : b0 ≡ m % 32) where
+  pub bit0 : odd b0 ≡ odd m
+  bit0 = let e : b0 % 2 ≡ m % 2 = omega arith in ap (λ x. eqb x 1) e
+
+  module _ {b1 : ℕ} (e1 : b1 ≡ b0 / 2) where
+    pub bit1 : odd b1 ≡ odd (m / 2)
+    bit1 = let e : b1 % 2 ≡ (m / 2) % 2 = omega arith in ap (λ x. eqb x 1) e
+
+    module _ {b2 : ℕ} (e2 : b2 ≡ b1 / 2) where
+      pub bit2 : odd b2 ≡ odd (m / 4)
+      bit2 = let e : b2 % 2 ≡ (m / 4) % 2 = omega arith in ap (λ x. eqb x 1) e
+
+      module _ {b3 : ℕ} (e3 : b3 ≡ b2 / 2) where
+        pub bit3 : odd b3 ≡ odd (m / 8)
+        bit3 = let e : b3 % 2 ≡ (m / 8) % 2 = omega arith in ap (λ x. eqb x 1) e
+
+        pub bit4 : {b4 : ℕ} → b4 ≡ b3 / 2 → odd b4 ≡ odd (m / 16)
+        bit4 {b4} e4 = let e : b4 % 2 ≡ (m / 16) % 2 = omega arith in ap (λ x. eqb x 1) e

@@ -1,0 +1,53 @@
+use Rattle.std.proofs.Common.{ℕ, ◌+◌, Ok, sym, ap, ◌∙◌, set}
+use Rattle.sheet.specs.Faults.{tested, unless}
+use Rattle.sheet.specs.Edits.{edit_fault, edited}
+use Rattle.record.specs.Decode.{under, checked}
+use Rattle.record.proofs.Cutting.{part_short, part_formless, part_checked, entry_not, entry_made, exit}
+use Rattle.record.proofs.Accepting.{left_in, put_in, accepted}
+use Rattle.record.proofs.filling.Filling.entry.Goals as goal
+
+pub returns-in_err-part-clause-got : goal.returns-in_err-part-clause-got
+returns-in_err-part-clause-got g c =
+    let t = g.L.Listed in
+    let n = c.args.self.now.draft.steps in
+    exit _ _ c.from_residual.ensures.1 (entry_not _ (λ floor. checked (t.fault n) (t.form floor)) t.cell _ _ _ _ (part_short _ (checked (t.fault n) (t.form c.args.floor)) _ _ c.in_err-part.ensures.got))
+
+pub returns-in_err-step-clause-got : goal.returns-in_err-step-clause-got
+returns-in_err-step-clause-got g c =
+    let t = g.L.Listed in
+    let n = c.args.self.now.draft.steps in
+    exit _ _ c.from_residual-in_err-step.ensures.1 (entry_not _ (λ floor. checked (t.fault n) (t.form floor)) t.cell _ _ _ _ (part_formless _ (t.fault n) (t.form c.args.floor) _ _ c.in_ok-part.ensures.got (sym c.in_err-step.ensures)))
+
+pub returns-in_err-at_place : goal.returns-in_err-at_place
+returns-in_err-at_place g c =
+    let t = g.L.Listed in
+    let l = t.table c.args.list in
+    let d = c.args.self.now.draft in
+    let e : ℕ × g.row.L-Entry.Denot = (c.in_ok-step.step, c.in_ok-step.entry) in
+    let tests = ap (edit_fault d.steps d.state) c.edit.ensures ∙ g.met.L.Listed.tests c.args.list d.steps d.state e in
+    let told = c.in_err-at_place.ensures ∙ ap (under _) (c.edit-2.ensures.answers ∙ ap tested tests) in
+    let left = c.edit-2.ensures.leaves ∙ (λ i. unless (tests i) (edited d.steps d.state (c.edit.ensures i)) d.state) in
+    let enters = g.met.L.Listed.enters c.args.list d.steps d.state e d.unworked in
+    record {
+      filled = record { kept = c.part.ensures.kept; steps = c.edit-2.ensures.same; leaves = left_in l (t.fault d.steps e) (set (l.of d.state) e.0 (t.cell e.1)) enters left };
+      got = exit _ _ c.from_residual-in_err-at_place.ensures.1 (entry_not _ (λ floor. checked (t.fault d.steps) (t.form floor)) t.cell _ _ _ _ (sym (part_checked _ (t.fault d.steps) (t.form c.args.floor) _ _ _ c.in_ok-part.ensures.got (sym c.in_ok-step.ensures) told)));
+    }
+
+pub returns : goal.returns
+returns g c =
+    let t = g.L.Listed in
+    let l = t.table c.args.list in
+    let d = c.args.self.now.draft in
+    let e : ℕ × g.row.L-Entry.Denot = (c.in_ok-step.step, c.in_ok-step.entry) in
+    let tests = ap (edit_fault d.steps d.state) c.edit.ensures ∙ g.met.L.Listed.tests c.args.list d.steps d.state e in
+    let told = c.in_ok-at_place.ensures ∙ ap (under _) (c.edit-2.ensures.answers ∙ ap tested tests) in
+    let left = c.edit-2.ensures.leaves ∙ (λ i. unless (tests i) (edited d.steps d.state (c.edit.ensures i)) d.state) in
+    let enters = g.met.L.Listed.enters c.args.list d.steps d.state e d.unworked in
+    record {
+      filled = record { kept = c.part.ensures.kept; steps = c.edit-2.ensures.same; leaves = left_in l (t.fault d.steps e) (set (l.of d.state) e.0 (t.cell e.1)) enters left };
+      got =
+          ap (λ k. Ok (k + 1, (l.of c.edit-2.new.self.state, c.part.new.self.at))) c.from.ensures
+          ∙ entry_made _ (λ floor. checked (t.fault d.steps) (t.form floor)) t.cell _ _ _ _
+          (part_checked _ (t.fault d.steps) (t.form c.args.floor) _ _ _ c.in_ok-part.ensures.got (sym c.in_ok-step.ensures) told)
+          (put_in l (t.fault d.steps e) (set (l.of d.state) e.0 (t.cell e.1)) enters left (accepted _ _ told));
+    }

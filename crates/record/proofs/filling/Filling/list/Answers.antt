@@ -1,0 +1,56 @@
+use Rattle.std.proofs.Common.{◌≡◌, ◌-◌, ◌==◌, refl, sym, ap, ◌∙◌, rules, arith}
+use Rattle.record.specs.Decode.{checked, entry_at, entries_from, list_at}
+use Rattle.record.proofs.Cutting.{exit, entry_on, entry_off}
+use Rattle.record.proofs.Accepting.{filled_more}
+use Rattle.record.proofs.filling.Filling.list.Goals as goal
+
+pub returns-then-not-present-clause-got : goal.returns-then-not-present-clause-got
+unfolding list_at
+returns-then-not-present-clause-got g c = rw c.if-not-present.true
+
+pub returns-in_err-count-clause-got : goal.returns-in_err-count-clause-got
+unfolding list_at
+returns-in_err-count-clause-got g c =
+    let count = c.in_err-count.ensures.got (λ b. b == 0) (λ x b h p. search rules) in
+    rw c.if-not-present.false (exit _ _ c.from_residual.ensures.1 (rw (← count)))
+
+pub loop-init : goal.loop-init
+unfolding list_at
+loop-init g c =
+    let count = c.in_ok-count.ensures.got (λ b. b == 0) (λ x b h p. search rules) in
+    let z : c.in_ok-count.count - 0 ≡ c.in_ok-count.count = omega arith in
+    record {
+      filled = record { kept = c.byte_unless.ensures.kept; steps = refl; leaves = sym ((g.L.Listed.table c.args.list).same c.args.self.now.draft.state) };
+      rest = rw (z, c.if-not-present.false, ← count);
+    }
+
+pub returns-in_err-floor : goal.returns-in_err-floor
+returns-in_err-floor g c =
+    let t = g.L.Listed in
+    let n = c.args.self.now.draft.steps in
+    let l = c.loop in
+    let i = l.invariant in
+    let got = c.in_err-floor.ensures.got ∙ ap (λ n. entry_at g.row.N (λ floor. checked (t.fault n) (t.form floor)) t.cell l.self.reader.src.now l.floor ((t.table c.args.list).of l.self.draft.state) l.self.reader.at) i.filled.steps in
+    record {
+      filled = filled_more i.filled c.entry.ensures.filled;
+      got = exit _ _ c.from_residual-in_err-floor.ensures.1 (sym i.rest ∙ entry_off _ (λ floor. checked (t.fault n) (t.form floor)) t.cell i.filled.kept _ _ c.loop-test.true _ _ _ got);
+    }
+
+pub loop-preserved : goal.loop-preserved
+loop-preserved g c =
+    let t = g.L.Listed in
+    let n = c.args.self.now.draft.steps in
+    let l = c.loop in
+    let i = l.invariant in
+    let got = c.in_ok-floor.ensures.got ∙ ap (λ n. entry_at g.row.N (λ floor. checked (t.fault n) (t.form floor)) t.cell l.self.reader.src.now l.floor ((t.table c.args.list).of l.self.draft.state) l.self.reader.at) i.filled.steps in
+    record {
+      filled = filled_more i.filled c.entry.ensures.filled;
+      rest = entry_on _ (λ floor. checked (t.fault n) (t.form floor)) t.cell i.filled.kept _ _ c.loop-test.true _ _ _ got ∙ i.rest;
+    }
+
+pub returns : goal.returns
+unfolding entries_from
+returns g c =
+    let i = c.loop.invariant in
+    let z : c.in_ok-count.count - c.loop.counter ≡ 0 = omega arith in
+    record { filled = i.filled; got = rw z at i.rest }
