@@ -1,5 +1,5 @@
 -- What an edit leaves of the state of a draft.
-use Rattle.std.proofs.Common.{◌≡◌, ℕ, Some, None, Ok, Err, Option, Result, sym, refl, ap, ◌∙◌, arith}
+use Rattle.std.proofs.Common.{◌≡◌, ℕ, Some, None, Ok, Err, Option, Result, sym, refl, ap, ◌∙◌}
 use Rattle.sheet.specs.declared.state.State.{State}
 use Rattle.sheet.specs.declared.fault.SheetFault.{SheetFault}
 use Rattle.sheet.specs.Faults.{tested, unless}
@@ -25,7 +25,7 @@ module _ {X : Type 0} {s : State} (f : Lens X) (o : Option SheetFault) (x : X) {
 -- what an accepted edit answered
 pub accepted : (place : ℕ) (o : Option SheetFault) → Ok tt ≡ under place (tested o) → o ≡ None
 accepted place None e = refl
-accepted place (Some d) e = absurd (let z : ◌≡◌ {A = ℕ} 0 1 = cc in omega arith)
+accepted place (Some d) e = absurd cc
 
 pub yields_as : {Y : Type 0} (r : Result (Unit {0}) RecordFault) (u v : Y) → (r ≡ Ok tt → u ≡ v) → yields r u ≡ yields r v
 yields_as (Ok t) u v e = ap (λ y. Ok y) (e refl)

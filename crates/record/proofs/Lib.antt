@@ -1,5 +1,4 @@
 pub mod Cutting
-pub mod Counting
 pub mod Tables
 pub mod Listing
 pub mod Turning

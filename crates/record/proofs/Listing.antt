@@ -1,6 +1,7 @@
 -- The parts of a record that is made of bytes p and then a tail, and the lists in it.
 use Rattle.std.proofs.Common.{◌≡◌, ℕ, zero, suc, ◌+◌, ◌*◌, ◌/◌, ◌%◌, ◌<◌, ◌≤◌, Bool, true, false, not, eqb, List, [], ◌∷◌, ◌++◌, length, take, drop, set, Ok, Err, Result, sym, refl, ap, ◌∙◌, ⊎_elim, add-zero, arith}
 use Rattle.std.proofs.lemmas.List.{append_assoc, length-drop, length-append, length-take-le, take_at, drop_at, drop-drop, take-append-drop}
+use Rattle.std.proofs.lemmas.List.Elements.{All-from_recursion, recursion_from_All, All-take, All-drop}
 use Rattle.std.proofs.lemmas.Bool.{cases_lt, ne_eqb}
 use Rattle.std.proofs.lemmas.Bool.Decides.{nat_tests}
 use Rattle.std.proofs.lemmas.Nat.{shr-shr}
@@ -14,11 +15,11 @@ use Rattle.record.proofs.Tables.{filled, Climbs}
 -- what a run of steps came to, step by step back
 pub then_ok : {X Y : Type 0} (q : Result X RecordFault) (f : X → Result Y RecordFault) (y : Y) → then q f ≡ Ok y → (x : X) × (q ≡ Ok x) × (f x ≡ Ok y)
 then_ok (Ok x) f y e = (x, refl, e)
-then_ok (Err d) f y e = absurd (let z : ◌≡◌ {A = ℕ} 0 1 = cc in omega arith)
+then_ok (Err d) f y e = absurd cc
 
 pub read_ok : {X : Type 0} (r : Result X RecordFault) (next : ℕ) (x : X) (at : ℕ) → reads r next ≡ Ok (x, at) → (r ≡ Ok x) × (at ≡ next)
 read_ok {X} (Ok y) next x at e = let p : ◌≡◌ {A = X × ℕ} (y, next) (x, at) = cc in (ap (λ z. Ok z.0) p, sym (ap (λ z. z.1) p))
-read_ok {X} (Err d) next x at e = absurd (let z : ◌≡◌ {A = ℕ} 0 1 = cc in omega arith)
+read_ok {X} (Err d) next x at e = absurd cc
 
 pub past : (src p tail : List ℕ) (at : ℕ) → drop at src ≡ p ++ tail → drop (at + length p) src ≡ tail
 past src p tail at e = sym (drop-drop (length p) at src) ∙ ap (drop (length p)) e ∙ drop_at p tail (length p) refl
@@ -73,18 +74,8 @@ word_bytes4 a b c d ha hb hc hd =
 abbrev pub Bytes : List ℕ → Type 0
 Bytes = AllByRecursion (λ b. b < 256)
 
-bytes_take : (k : ℕ) (bs : List ℕ) → Bytes bs → Bytes (take k bs)
-bytes_take zero bs h = tt
-bytes_take (suc k) [] h = tt
-bytes_take (suc k) (b ∷ bs) h = (h.0, bytes_take k bs h.1)
-
-bytes_drop : (k : ℕ) (bs : List ℕ) → Bytes bs → Bytes (drop k bs)
-bytes_drop zero bs h = h
-bytes_drop (suc k) [] h = tt
-bytes_drop (suc k) (b ∷ bs) h = bytes_drop k bs h.1
-
 pub bytes_part : (k at : ℕ) (bs : List ℕ) → Bytes bs → Bytes (take k (drop at bs))
-bytes_part k at bs h = bytes_take k (drop at bs) (bytes_drop at bs h)
+bytes_part k at bs h = let P : ℕ → Type 0 = λ b. b < 256 in recursion_from_All P _ (All-take P k (drop at bs) (All-drop P at bs (All-from_recursion P bs h)))
 
 -- a field of four bytes
 module _ (says : ℕ → List ℕ → Result ℕ RecordFault) (default : ℕ) (src : List ℕ) where
@@ -109,7 +100,7 @@ count_back place (b ∷ d ∷ bs) c l e = absurd (omega arith)
 count_back place (b ∷ []) c l e = way b refl
   where
     way : (x : ℕ) → b ≡ x → (0 < c) × (b ∷ [] ≡ c ∷ [])
-    way zero h = absurd (let z : ◌≡◌ {A = ℕ} 0 1 = cc (ap (λ v. count_form place (v ∷ [])) h) in omega arith)
+    way zero h = absurd (cc (ap (λ v. count_form place (v ∷ [])) h))
     way (suc x) h = let s : b ≡ c = grind (arith, nat_tests) in (omega arith, ap (λ v. v ∷ []) s)
 
 -- a list

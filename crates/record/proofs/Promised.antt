@@ -1,5 +1,6 @@
 -- What load and save promise, from what their parts do.
-use Rattle.std.proofs.Common.{◌≡◌, ℕ, suc, ◌+◌, ◌<◌, ◌≤◌, true, false, cond, ltb, List, [], ◌∷◌, ◌++◌, length, get_or, drop, Some, None, Ok, Err, Result, sym, ap, ◌∙◌, zero-add, arith}
+use Rattle.std.proofs.Common.{◌≡◌, ℕ, ◌+◌, ◌<◌, ◌≤◌, true, false, cond, ltb, List, ◌++◌, length, get_or, drop, Some, None, Ok, Err, Result, sym, ap, ◌∙◌, zero-add}
+use Rattle.std.proofs.lemmas.List.Elements.{recursion_from_All, All-from_get_or}
 use Rattle.std.proofs.lemmas.Bool.{lt-ltb, le-ltb, eq-eqb}
 use Rattle.rates.specs.Model.{Model}
 use Rattle.rates.specs.Refusals.{accepted, told}
@@ -52,14 +53,13 @@ module _ (s : State) (out : List ℕ) (tables : (length s.terms.coupons ≡ 65) 
 
 -- the numbers of a list of bytes
 pub bytes_from : (xs : List ℕ) → ((i : ℕ) → get_or xs i 0 < 256) → Bytes xs
-bytes_from [] h = tt
-bytes_from (x ∷ xs) h = (h 0, bytes_from xs (λ i. h (suc i)))
+bytes_from xs h = let P : ℕ → Type 0 = λ b. b < 256 in recursion_from_All P xs (All-from_get_or P xs 0 (λ i _. h i))
 
 -- a draft of as many steps, filled from a record and put in force
 module _ (m : Model) (σ : ℕ → ℕ → ℕ) (src : List ℕ) (before s : State) where
   told_ok : (q : Result ℕ SheetFault) (w : ℕ) → told sheet_refusal q ≡ accepted w → q ≡ Ok w
   told_ok (Ok x) w e = let z : x ≡ w = cc in ap (λ y. Ok y) z
-  told_ok (Err f) w e = absurd (let z : ◌≡◌ {A = ℕ} 0 1 = cc in omega arith)
+  told_ok (Err f) w e = absurd cc
 
   pub loaded_whole : {k : ℕ} (q : Result ℕ SheetFault) {r : Result ℕ RecordFault} {after : State} → m.steps ≤ 64 → Bytes src → k ≡ m.steps → s.first ≡ k + 1 → decode m.steps src ≡ Ok (s.terms, s.spread) → Adopted m σ k s before q after → r ≡ under 0 q → Loaded m σ src before r after
   loaded_whole {k} q {r} {after} few bytes n unworked dec a placed =

@@ -14,7 +14,7 @@ use Rattle.record.proofs.Tables.{filled, Climbs, filled_entries, entries_from_bl
 use Rattle.record.proofs.Listing.{then_ok, bytes4_word, word_bytes4, Bytes, list_read, list_back}
 
 pub cond_ok : {X : Type 0} (b : Bool) (d : RecordFault) (q : Result X RecordFault) (y : X) → cond b (Err d) q ≡ Ok y → (b ≡ false) × (q ≡ Ok y)
-cond_ok true d q y e = absurd (let z : ◌≡◌ {A = ℕ} 0 1 = cc in omega arith)
+cond_ok true d q y e = absurd cc
 cond_ok false d q y e = (refl, e)
 
 -- a part that both the form and the sheet accept
@@ -26,7 +26,7 @@ checked_ok {X} fault form place bs x e =
   where
     way : (y : X) (o : Option SheetFault) → fault y ≡ o → yields (under place (tested o)) y ≡ Ok x → (fault y ≡ None) × (y ≡ x)
     way y None z e = (z, cc)
-    way y (Some f) z e = absurd (let n : ◌≡◌ {A = ℕ} 0 1 = cc in omega arith)
+    way y (Some f) z e = absurd cc
 
 pub word_says : (bs : List ℕ) → Bytes bs → length bs ≡ 4 → bytes4 (word 0 bs) ≡ bs
 word_says (a ∷ b ∷ c ∷ d ∷ []) h l = word_bytes4 a b c d h.0 h.1.0 h.1.1.0 h.1.1.1.0
@@ -106,7 +106,7 @@ pub nonzero_is : (a e : ℕ) → nonzero a ≡ Some e → (eqb e 0 ≡ false) ×
 nonzero_is a e h = way (eqb a 0) refl h
   where
     way : (b : Bool) → eqb a 0 ≡ b → cond b None (Some a) ≡ Some e → (eqb e 0 ≡ false) × (e ≡ a)
-    way true z h = absurd (let y : ◌≡◌ {A = ℕ} 0 1 = cc in omega arith)
+    way true z h = absurd cc
     way false z h = let s : a ≡ e = cc in (ap (λ x. eqb x 0) (sym s) ∙ z, sym s)
 
 pub nonzero_none : (a : ℕ) → nonzero a ≡ None → a ≡ 0
@@ -114,7 +114,7 @@ nonzero_none a h = way (eqb a 0) refl h
   where
     way : (b : Bool) → eqb a 0 ≡ b → cond b None (Some a) ≡ None → a ≡ 0
     way true z h = eqb-true a 0 z
-    way false z h = absurd (let y : ◌≡◌ {A = ℕ} 0 1 = cc in omega arith)
+    way false z h = absurd cc
 
 pub coupon_form_bytes : (n floor place : ℕ) (e : ℕ × ℕ) → floor ≤ e.0 → nonzero e.1 ≡ Some e.1 → coupon_fault n e.0 e.1 ≡ None → coupon_form floor place (coupon_bytes e) ≡ Ok e
 coupon_form_bytes n floor place e f g z =

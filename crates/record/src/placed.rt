@@ -9,8 +9,5 @@ use sheet::SheetFault;
 pub(crate) fn at_place<T>(res: Result<T, SheetFault>, place: usize) -> Result<T, RecordFault>
     ensures { result ≡ under place res }
 {
-    match res {
-        Ok(value) => Ok(value),
-        Err(fault) => Err(RecordFault::Term(place, fault)),
-    }
+    res.map_err(|fault| RecordFault::Term(place, fault))
 }

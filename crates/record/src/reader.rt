@@ -45,6 +45,7 @@ impl<'a> Reader<'a> {
             place: at,
         })
     }
+
     // The next byte, unless it breaks the form.
     pub(crate) fn byte_unless<F: FnOnce(u8) -> bool>(&mut self, bad: F) -> Result<u8, RecordFault>
         requires { F.IsAlwaysCallable bad }

@@ -7,6 +7,7 @@ ghost use Rattle.record.specs.Promises.{Saved};
 use crate::entries::Entries;
 use crate::fault::RecordFault;
 use crate::field::Field;
+use crate::word::Word;
 use crate::writer::Writer;
 use game::clash::ClashRule;
 use game::terms::{Right, Terms};
@@ -30,8 +31,8 @@ impl<'a> Record<'a> {
         ensures tables { (length terms.now.coupons ≡ 65) × (length terms.now.calls ≡ 64) × (length terms.now.puts ≡ 64) }
     {
         Record {
-            redemption: (terms.redemption != 1_000_000).then_some(terms.redemption),
-            spread: (spread != 0).then_some(spread),
+            redemption: Word::Redemption.written(terms.redemption),
+            spread: Word::Spread.written(spread),
             coupons: Entries::new(&terms.coupons),
             calls: Entries::new(&terms.calls),
             puts: Entries::new(&terms.puts),

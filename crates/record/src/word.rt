@@ -1,5 +1,6 @@
 // The fields of a record that are a number of four bytes.
-ghost use Rattle.std.specs.Prelude.{◌≡◌, ◌≤◌, length};
+ghost use Rattle.std.specs.Prelude.{◌≡◌, ◌≤◌, length, not, ◌==◌};
+ghost use Rattle.std.specs.Bool.{then_some};
 ghost use Rattle.record.specs.Decode.{word_form};
 ghost use Rattle.record.specs.Fills.{word_absent, word_edit};
 
@@ -22,6 +23,13 @@ impl Word {
             Word::Redemption => 1_000_000,
             Word::Spread => 0,
         }
+    }
+
+    // What is written of a value.
+    pub(crate) fn written(self, value: u32) -> Option<u32>
+        ensures { result ≡ then_some (not (value == word_absent self)) value }
+    {
+        (value != self.absent()).then_some(value)
     }
 
     // What the bytes of the field say.

@@ -7,8 +7,8 @@ use Rattle.record.proofs.saving.Record.new.Goals as goal
 pub returns : goal.returns
 unfolding record_bytes encode
 returns c =
-    let r = ap some_word c.then_some.ensures ∙ word_shown _ _ in
-    let s = ap some_word c.then_some-2.ensures ∙ word_shown _ _ in
+    let r = ap some_word c.written.ensures ∙ word_shown _ _ in
+    let s = ap some_word c.written-2.ensures ∙ word_shown _ _ in
     let l = ap (λ t. list_bytes coupon_bytes (coupons_in t)) c.new.ensures in
     let k = ap (λ t. list_bytes right_bytes (rights_in t)) c.new-2.ensures in
     let p = ap (λ t. list_bytes right_bytes (rights_in t)) c.new-3.ensures in
