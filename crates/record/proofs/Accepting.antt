@@ -2,30 +2,37 @@
 use Rattle.std.proofs.Common.{◌≡◌, ℕ, Some, None, Ok, Err, Option, Result, sym, refl, ap, ◌∙◌}
 use Rattle.sheet.specs.declared.state.State.{State}
 use Rattle.sheet.specs.declared.fault.SheetFault.{SheetFault}
+use Rattle.sheet.specs.declared.edit.Edit.{Edit}
 use Rattle.sheet.specs.Faults.{tested, unless}
+use Rattle.sheet.specs.Edits.{edit_fault, edited}
 use Rattle.record.specs.declared.fault.RecordFault.{RecordFault}
 use Rattle.record.specs.Decode.{yields, under}
 use Rattle.record.specs.declared.filling.Filling.{Filling}
 use Rattle.record.specs.Filled.{Filled}
 use Rattle.record.specs.Fills.{Lens}
 
-module _ {X : Type 0} {s : State} (f : Lens X) (o : Option SheetFault) (x : X) {new after : State} (e : o ≡ None → new ≡ f.with s x) (a : after ≡ unless o new s) where
-  -- whatever the edit answers, nothing but the field has changed
-  pub left_in : after ≡ f.with s (f.of after)
-  left_in = way o refl a
-    where
-      way : (p : Option SheetFault) → o ≡ p → after ≡ unless p new s → after ≡ f.with s (f.of after)
-      way None z a = let w = a ∙ e z in w ∙ ap (f.with s) (sym (ap f.of w ∙ f.held s x))
-      way (Some d) z a = a ∙ sym (f.same s) ∙ ap (λ t. f.with s (f.of t)) (sym a)
+-- an edit that was tried, what the sheet answered and what it left: the field has the new value if it was accepted,
+-- and nothing else has changed
+pub record Tried {X : Type 0} (f : Lens X) (place : ℕ) (fault : Option SheetFault) (x : X) (s after : State) (r : Result (Unit {0}) RecordFault) : Type 0 where
+  pub told : r ≡ under place (tested fault)
+  pub leaves : after ≡ f.with s (f.of after)
+  pub put : r ≡ Ok tt → f.of after ≡ x
 
-  -- an accepted edit has put its value there
-  pub put_in : o ≡ None → f.of after ≡ x
-  put_in z = ap f.of (a ∙ ap (λ p. unless p new s) z ∙ e z) ∙ f.held s x
+module _ {X : Type 0} (f : Lens X) (x : X) (n : ℕ) (s : State) where
+  leaves_in : (o : Option SheetFault) {new after : State} → (o ≡ None → new ≡ f.with s x) → after ≡ unless o new s → after ≡ f.with s (f.of after)
+  leaves_in None e a = let w = a ∙ e refl in w ∙ ap (f.with s) (sym (ap f.of w ∙ f.held s x))
+  leaves_in (Some d) e a = a ∙ sym (f.same s) ∙ ap (λ t. f.with s (f.of t)) (sym a)
 
--- what an accepted edit answered
-pub accepted : (place : ℕ) (o : Option SheetFault) → Ok tt ≡ under place (tested o) → o ≡ None
-accepted place None e = refl
-accepted place (Some d) e = absurd cc
+  puts_in : (place : ℕ) (o : Option SheetFault) {new after : State} → (o ≡ None → new ≡ f.with s x) → after ≡ unless o new s → Ok tt ≡ under place (tested o) → f.of after ≡ x
+  puts_in place None e a z = ap f.of (a ∙ e refl) ∙ f.held s x
+  puts_in place (Some d) e a z = absurd cc
+
+  pub tried : {edit e : Edit} {place : ℕ} {fault : Option SheetFault} {after : State} {q : Result (Unit {0}) SheetFault} {r : Result (Unit {0}) RecordFault} → e ≡ edit → edit_fault n s edit ≡ fault → (fault ≡ None → edited n s edit ≡ f.with s x) → q ≡ tested (edit_fault n s e) → after ≡ unless (edit_fault n s e) (edited n s e) s → r ≡ under place q → Tried f place fault x s after r
+  tried {place = place} {fault} is tests enters answers leaves placed =
+      let same = ap (edit_fault n s) is ∙ tests in
+      let told = placed ∙ ap (under place) (answers ∙ ap tested same) in
+      let left = leaves ∙ (λ i. unless (same i) (edited n s (is i)) s) in
+      record { told = told; leaves = leaves_in fault enters left; put = λ z. puts_in place fault enters left (sym z ∙ told) }
 
 pub yields_as : {Y : Type 0} (r : Result (Unit {0}) RecordFault) (u v : Y) → (r ≡ Ok tt → u ≡ v) → yields r u ≡ yields r v
 yields_as (Ok t) u v e = ap (λ y. Ok y) (e refl)

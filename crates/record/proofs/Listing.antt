@@ -100,7 +100,7 @@ count_back place (b ∷ d ∷ bs) c l e = absurd (omega arith)
 count_back place (b ∷ []) c l e = way b refl
   where
     way : (x : ℕ) → b ≡ x → (0 < c) × (b ∷ [] ≡ c ∷ [])
-    way zero h = absurd (cc (ap (λ v. count_form place (v ∷ [])) h))
+    way zero h = absurd cc
     way (suc x) h = let s : b ≡ c = grind (arith, nat_tests) in (omega arith, ap (λ v. v ∷ []) s)
 
 -- a list

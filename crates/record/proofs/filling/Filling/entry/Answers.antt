@@ -1,9 +1,7 @@
-use Rattle.std.proofs.Common.{ℕ, ◌+◌, Ok, sym, ap, ◌∙◌, set}
-use Rattle.sheet.specs.Faults.{tested, unless}
-use Rattle.sheet.specs.Edits.{edit_fault, edited}
-use Rattle.record.specs.Decode.{under, checked}
+use Rattle.std.proofs.Common.{ℕ, ◌+◌, Ok, refl, sym, ap, ◌∙◌, set}
+use Rattle.record.specs.Decode.{checked}
 use Rattle.record.proofs.Cutting.{part_short, part_formless, part_checked, entry_not, entry_made, exit}
-use Rattle.record.proofs.Accepting.{left_in, put_in, accepted}
+use Rattle.record.proofs.Accepting.{tried}
 use Rattle.record.proofs.filling.Filling.entry.Goals as goal
 
 pub returns-in_err-part-clause-got : goal.returns-in_err-part-clause-got
@@ -24,13 +22,11 @@ returns-in_err-at_place g c =
     let l = t.table c.args.list in
     let d = c.args.self.now.draft in
     let e : ℕ × g.row.L-Entry.Denot = (c.in_ok-step.step, c.in_ok-step.entry) in
-    let tests = ap (edit_fault d.steps d.state) c.edit.ensures ∙ g.met.L.Listed.tests c.args.list d.steps d.state e in
-    let told = c.in_err-at_place.ensures ∙ ap (under _) (c.edit-2.ensures.answers ∙ ap tested tests) in
-    let left = c.edit-2.ensures.leaves ∙ (λ i. unless (tests i) (edited d.steps d.state (c.edit.ensures i)) d.state) in
-    let enters = g.met.L.Listed.enters c.args.list d.steps d.state e d.unworked in
+    let laws = g.met.L.Listed in
+    let done = tried l (set (l.of d.state) e.0 (t.cell e.1)) d.steps d.state c.edit.ensures (laws.tests c.args.list d.steps d.state e) (laws.enters c.args.list d.steps d.state e d.unworked) c.edit-2.ensures.answers c.edit-2.ensures.leaves c.in_err-at_place.ensures in
     record {
-      filled = record { kept = c.part.ensures.kept; steps = c.edit-2.ensures.same; leaves = left_in l (t.fault d.steps e) (set (l.of d.state) e.0 (t.cell e.1)) enters left };
-      got = exit _ _ c.from_residual-in_err-at_place.ensures.1 (entry_not _ (λ floor. checked (t.fault d.steps) (t.form floor)) t.cell _ _ _ _ (sym (part_checked _ (t.fault d.steps) (t.form c.args.floor) _ _ _ c.in_ok-part.ensures.got (sym c.in_ok-step.ensures) told)));
+      filled = record { kept = c.part.ensures.kept; steps = c.edit-2.ensures.same; leaves = done.leaves };
+      got = exit _ _ c.from_residual-in_err-at_place.ensures.1 (entry_not _ (λ floor. checked (t.fault d.steps) (t.form floor)) t.cell _ _ _ _ (sym (part_checked _ (t.fault d.steps) (t.form c.args.floor) _ _ _ c.in_ok-part.ensures.got (sym c.in_ok-step.ensures) done.told)));
     }
 
 pub returns : goal.returns
@@ -39,15 +35,13 @@ returns g c =
     let l = t.table c.args.list in
     let d = c.args.self.now.draft in
     let e : ℕ × g.row.L-Entry.Denot = (c.in_ok-step.step, c.in_ok-step.entry) in
-    let tests = ap (edit_fault d.steps d.state) c.edit.ensures ∙ g.met.L.Listed.tests c.args.list d.steps d.state e in
-    let told = c.in_ok-at_place.ensures ∙ ap (under _) (c.edit-2.ensures.answers ∙ ap tested tests) in
-    let left = c.edit-2.ensures.leaves ∙ (λ i. unless (tests i) (edited d.steps d.state (c.edit.ensures i)) d.state) in
-    let enters = g.met.L.Listed.enters c.args.list d.steps d.state e d.unworked in
+    let laws = g.met.L.Listed in
+    let done = tried l (set (l.of d.state) e.0 (t.cell e.1)) d.steps d.state c.edit.ensures (laws.tests c.args.list d.steps d.state e) (laws.enters c.args.list d.steps d.state e d.unworked) c.edit-2.ensures.answers c.edit-2.ensures.leaves c.in_ok-at_place.ensures in
     record {
-      filled = record { kept = c.part.ensures.kept; steps = c.edit-2.ensures.same; leaves = left_in l (t.fault d.steps e) (set (l.of d.state) e.0 (t.cell e.1)) enters left };
+      filled = record { kept = c.part.ensures.kept; steps = c.edit-2.ensures.same; leaves = done.leaves };
       got =
           ap (λ k. Ok (k + 1, (l.of c.edit-2.new.self.state, c.part.new.self.at))) c.from.ensures
           ∙ entry_made _ (λ floor. checked (t.fault d.steps) (t.form floor)) t.cell _ _ _ _
-          (part_checked _ (t.fault d.steps) (t.form c.args.floor) _ _ _ c.in_ok-part.ensures.got (sym c.in_ok-step.ensures) told)
-          (put_in l (t.fault d.steps e) (set (l.of d.state) e.0 (t.cell e.1)) enters left (accepted _ _ told));
+              (part_checked _ (t.fault d.steps) (t.form c.args.floor) _ _ _ c.in_ok-part.ensures.got (sym c.in_ok-step.ensures) done.told)
+              (done.put refl);
     }
