@@ -45,10 +45,6 @@ module _ {v : Writer} {all : List ℕ} {v₀ : Writer} where
 
 -- a list: its count, then its entries
 module _ {E : Type 0} (f : ℕ × E → List ℕ) where
-  pub list_none : (es : List (ℕ × E)) {count : ℕ} → count ≡ length es → count ≡ 0 → list_bytes f es ≡ []
-  list_none [] n h = refl
-  list_none (e ∷ es) n h = absurd (omega arith)
-
   pub list_some : (es : List (ℕ × E)) {count : ℕ} → count ≡ length es → (count ≡ 0 → ⊥) → list_bytes f es ≡ (count ∷ []) ++ flat_map f es
   list_some [] n h = absurd (h n)
   list_some (e ∷ es) n h = ap (λ k. k ∷ flat_map f (e ∷ es)) (sym n)

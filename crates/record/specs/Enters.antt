@@ -1,4 +1,8 @@
 -- What an accepted edit makes of the state of a draft, of which nothing is worked: one field of a record is new.
+--   coupon_low, right_low    how low the numbers of an accepted entry are
+--   word_tests, word_enters  the edit of a word: when the sheet turns it down, and the state that it leaves
+--   coupon_enters            the state that a coupon's edit leaves
+--   right_enters             the state that a right's edit leaves
 -- Assumes nothing.
 use Rattle.std.proofs.Common.{◌≡◌, ℕ, ◌+◌, ◌<◌, ◌≤◌, max, set, Some, None, sym, refl, ap, arith}
 use Rattle.std.proofs.lemmas.Bool.Decides.{nat_tests}

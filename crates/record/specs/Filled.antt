@@ -1,4 +1,5 @@
--- What a read of a field leaves: the record, the steps and all other fields as they were.
+-- What a read of a field leaves.
+--   Filled  the record, the steps and all other fields are as they were
 -- Assumes nothing.
 use Rattle.std.specs.Prelude.{◌≡◌}
 use Rattle.record.specs.declared.filling.Filling.{Filling}

@@ -1,4 +1,5 @@
-// A record that is read into a draft, field by field: the form of each part first, then the sheet's own test.
+// A record that is read into a draft, field by field: the form of each part first, then the
+// sheet's own test.
 ghost use Rattle.std.specs.Prelude.{◌≡◌, List};
 ghost use Rattle.record.specs.Decode.{then, reads, yields, checked, word_form, word_at, entry_at, list_at, end_at};
 ghost use Rattle.record.specs.Fills.{word_absent, word_fault, word_lens};
@@ -18,7 +19,8 @@ pub(crate) struct Filling<'a> {
 }
 
 impl<'a> Filling<'a> {
-    // A word, where the map has it.
+    // A word, where the map has it. The map's bit comes along, as in the definition: the caller
+    // would ask it five times.
     pub(crate) fn word(&mut self, word: Word, present: bool) -> Result<(), RecordFault>
         ensures filled { Filled (word_lens word) self.old self.new }
         ensures got { yields result ((word_lens word).of self.new.draft.state, self.new.reader.at) ≡ word_at (checked (word_fault word) (word_form (word_absent word))) ((word_lens word).of self.old.draft.state) present self.old.reader.src.now self.old.reader.at }

@@ -32,7 +32,7 @@ pub(crate) trait Listed<const N: usize>: Copy {
 
     ghost cell: { Self.Entry → Self.Cell };
 
-    // What the bytes of an entry say: its step, which is no less than the floor, and what stands there.
+    // What the bytes of an entry say: its step, no less than the floor, and what stands there.
     fn form(part: Part, floor: usize) -> Result<(u8, Self::Entry), RecordFault>
         requires { N ≤ length part.bytes.now }
         ensures { result ≡ form floor part.entry.place part.entry.bytes.now };

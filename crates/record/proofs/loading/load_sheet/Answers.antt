@@ -3,15 +3,12 @@ use Rattle.record.specs.Decode.{decode}
 use Rattle.record.proofs.Promised.{bytes_from, loaded_whole}
 use Rattle.record.proofs.loading.load_sheet.Goals as goal
 
-pub returns : goal.returns
-returns g c =
+pub returns-clause-loaded : goal.returns-clause-loaded
+returns-clause-loaded g c =
     let s = c.args.sheet.now in
     let m = g.L.Lattice.model s.lattice in
     let draft = c.in_ok-draft.draft in
     let steps = c.in_ok-draft.ensures.steps ∙ c.draft.ensures.steps in
     let bytes = bytes_from c.args.bytes.now (λ i. omega (arith, c.type_inv.bytes i)) in
     let dec = ap (λ n. decode n c.args.bytes.now) (sym c.draft.ensures.steps) ∙ sym c.in_ok-draft.ensures.filled in
-    record {
-      loaded = loaded_whole m (g.K.ClashRule.settled s.clash) c.args.bytes.now s.state draft.state c.adopt.result (g.L.Lattice.lawful s.lattice).few_steps bytes steps draft.unworked dec c.adopt.ensures.adopted c.at_place.ensures;
-      same = c.adopt.ensures.same;
-    }
+    loaded_whole m (g.K.ClashRule.settled s.clash) c.args.bytes.now s.state draft.state c.adopt.result (g.L.Lattice.lawful s.lattice).few_steps bytes steps draft.unworked dec c.adopt.ensures.adopted c.at_place.ensures

@@ -42,6 +42,6 @@ returns g c =
       got =
           ap (λ k. Ok (k + 1, (l.of c.edit-2.new.self.state, c.part.new.self.at))) c.from.ensures
           ∙ entry_made _ (λ floor. checked (t.fault d.steps) (t.form floor)) t.cell _ _ _ _
-              (part_checked _ (t.fault d.steps) (t.form c.args.floor) _ _ _ c.in_ok-part.ensures.got (sym c.in_ok-step.ensures) done.told)
-              (done.put refl);
+          (part_checked _ (t.fault d.steps) (t.form c.args.floor) _ _ _ c.in_ok-part.ensures.got (sym c.in_ok-step.ensures) done.told)
+          (done.put refl);
     }

@@ -24,17 +24,14 @@ loop-init g c =
       rest = rw (z, c.if-not-present.false, ← count);
     }
 
-pub returns-in_err-floor : goal.returns-in_err-floor
-returns-in_err-floor g c =
+pub returns-in_err-floor-clause-got : goal.returns-in_err-floor-clause-got
+returns-in_err-floor-clause-got g c =
     let t = g.L.Listed in
     let n = c.args.self.now.draft.steps in
     let l = c.loop in
     let i = l.invariant in
     let got = c.in_err-floor.ensures.got ∙ ap (λ n. entry_at g.row.N (λ floor. checked (t.fault n) (t.form floor)) t.cell l.self.reader.src.now l.floor ((t.table c.args.list).of l.self.draft.state) l.self.reader.at) i.filled.steps in
-    record {
-      filled = filled_more i.filled c.entry.ensures.filled;
-      got = exit _ _ c.from_residual-in_err-floor.ensures.1 (sym i.rest ∙ entry_off _ (λ floor. checked (t.fault n) (t.form floor)) t.cell i.filled.kept _ _ c.loop-test.true _ _ _ got);
-    }
+    exit _ _ c.from_residual-in_err-floor.ensures.1 (sym i.rest ∙ entry_off _ (λ floor. checked (t.fault n) (t.form floor)) t.cell i.filled.kept _ _ c.loop-test.true _ _ _ got)
 
 pub loop-preserved : goal.loop-preserved
 loop-preserved g c =
@@ -48,9 +45,8 @@ loop-preserved g c =
       rest = entry_on _ (λ floor. checked (t.fault n) (t.form floor)) t.cell i.filled.kept _ _ c.loop-test.true _ _ _ got ∙ i.rest;
     }
 
-pub returns : goal.returns
+pub returns-clause-got : goal.returns-clause-got
 unfolding entries_from
-returns g c =
-    let i = c.loop.invariant in
+returns-clause-got g c =
     let z : c.in_ok-count.count - c.loop.counter ≡ 0 = omega arith in
-    record { filled = i.filled; got = rw z at i.rest }
+    rw z at c.loop.invariant.rest

@@ -1,12 +1,12 @@
-use Rattle.std.proofs.Common.{◌∷◌, ◌++◌, ap, ◌∙◌, arith}
+use Rattle.std.proofs.Common.{◌∷◌, ◌++◌, ap, ◌∙◌}
 use Rattle.record.specs.Encode.{encode, map_byte, some, some_word, list_bytes, coupon_bytes, right_bytes, coupons_in, rights_in}
 use Rattle.record.specs.Puts.{record_bytes}
 use Rattle.record.proofs.Putting.{word_shown, some_bytes, some_entries}
 use Rattle.record.proofs.saving.Record.new.Goals as goal
 
-pub returns : goal.returns
+pub returns-clause-bytes : goal.returns-clause-bytes
 unfolding record_bytes encode
-returns c =
+returns-clause-bytes c =
     let r = ap some_word c.written.ensures ∙ word_shown _ _ in
     let s = ap some_word c.written-2.ensures ∙ word_shown _ _ in
     let l = ap (λ t. list_bytes coupon_bytes (coupons_in t)) c.new.ensures in
@@ -17,4 +17,4 @@ returns c =
     let d = ap some l ∙ some_entries coupon_bytes _ in
     let e = ap some k ∙ some_entries right_bytes _ in
     let f = ap some p ∙ some_entries right_bytes _ in
-    record { bytes = (λ i. map_byte (a i) (b i) (d i) (e i) (f i) ∷ (r i ++ (s i ++ (l i ++ (k i ++ p i))))); tables = (omega arith, omega arith, omega arith) }
+    (λ i. map_byte (a i) (b i) (d i) (e i) (f i) ∷ (r i ++ (s i ++ (l i ++ (k i ++ p i)))))
