@@ -1,10 +1,7 @@
 // One call on a shared sheet.
 ghost use Rattle.std.specs.Prelude.{◌≡◌, ℕ, ◌≤◌, List, length};
-ghost use Rattle.rates.specs.Refusals.{told, seen};
-ghost use Rattle.sheet.specs.Faults.{sheet_refusal};
 ghost use Rattle.sheet.specs.Admits.{Admitted};
 ghost use Rattle.sheet.specs.Shared.{Standing};
-ghost use Rattle.record.specs.Faults.{record_refusal};
 ghost use Rattle.session.specs.declared.call.Fault.TheVariants as fault;
 ghost use Rattle.session.specs.declared.call.Reply.TheVariants as reply;
 ghost use Rattle.session.specs.Answers.{heard};
@@ -15,7 +12,7 @@ use crate::call::{Call, Fault, Reply};
 use game::clash::ClashRule;
 use lattice::Lattice;
 use record::RecordFault;
-use sheet::{Entry, Sheet, SheetFault, Struck};
+use sheet::{Sheet, SheetFault};
 
 impl From<SheetFault> for Fault {
     ghost from_gives = { λ f r. r ≡ fault.Sheet f };
@@ -33,42 +30,6 @@ impl From<RecordFault> for Fault {
     }
 }
 
-fn first(r: Result<usize, SheetFault>) -> Result<Reply, Fault>
-    ensures { heard result ≡ seen reply.First (told sheet_refusal r) }
-{
-    Ok(Reply::First(r?))
-}
-
-fn loaded(r: Result<usize, RecordFault>) -> Result<Reply, Fault>
-    ensures { heard result ≡ seen reply.First (told record_refusal r) }
-{
-    Ok(Reply::First(r?))
-}
-
-fn saved(at: usize, r: Result<usize, RecordFault>) -> Result<Reply, Fault>
-    ensures { heard result ≡ seen (reply.Saved at) (told record_refusal r) }
-{
-    Ok(Reply::Saved(at, r?))
-}
-
-fn entry(r: Result<Entry, SheetFault>) -> Result<Reply, Fault>
-    ensures { heard result ≡ seen reply.Read (told sheet_refusal r) }
-{
-    Ok(Reply::Read(r?))
-}
-
-fn fitted(r: Result<u32, SheetFault>) -> Result<Reply, Fault>
-    ensures { heard result ≡ seen reply.Fitted (told sheet_refusal r) }
-{
-    Ok(Reply::Fitted(r?))
-}
-
-fn struck(r: Result<Struck, SheetFault>) -> Result<Reply, Fault>
-    ensures { heard result ≡ seen reply.Struck (told sheet_refusal r) }
-{
-    Ok(Reply::Struck(r?))
-}
-
 // Saves into the next bytes of the output, as many as the save names or as are left.
 fn save_next<L: Lattice, K: ClashRule>(
     sheet: &Sheet<L, K>,
@@ -84,7 +45,7 @@ fn save_next<L: Lattice, K: ClashRule>(
     let at = *used;
     let end = at + room.min(output.len() - at);
     *used = end;
-    saved(at, record::save(sheet, &mut output[at..end]))
+    Ok(Reply::Saved(at, record::save(sheet, &mut output[at..end])?))
 }
 
 pub(crate) fn perform<L: Lattice, K: ClashRule>(
@@ -104,13 +65,13 @@ pub(crate) fn perform<L: Lattice, K: ClashRule>(
     ensures same { (sheet.new.lattice ≡ sheet.old.lattice) × (sheet.new.clash ≡ sheet.old.clash) }
 {
     match call {
-        Call::Edit(edit) => first(sheet.edit(*edit)),
-        Call::Load(bytes) => loaded(record::load(sheet, bytes)),
+        Call::Edit(edit) => Ok(Reply::First(sheet.edit(*edit)?)),
+        Call::Load(bytes) => Ok(Reply::First(record::load(sheet, bytes)?)),
         Call::Save(room) => save_next(sheet, output, used, *room),
-        Call::Back(n) => first(sheet.back(*n, values, marks)),
-        Call::Read(t, j) => entry(sheet.read(*t, *j, values, marks)),
+        Call::Back(n) => Ok(Reply::First(sheet.back(*n, values, marks)?)),
+        Call::Read(t, j) => Ok(Reply::Read(sheet.read(*t, *j, values, marks)?)),
         Call::Cost => Ok(Reply::Costs(sheet.cost())),
-        Call::Fit(want) => fitted(sheet.fit(*want)),
-        Call::Strike => struck(sheet.strike(values)),
+        Call::Fit(want) => Ok(Reply::Fitted(sheet.fit(*want)?)),
+        Call::Strike => Ok(Reply::Struck(sheet.strike(values)?)),
     }
 }
