@@ -1,7 +1,7 @@
 -- One call more in a run, and what its answers say of struck prices. Assumes nothing.
-use Rattle.std.proofs.Common.{◌≡◌, ℕ, zero, suc, ◌+◌, ◌<◌, ◌≤◌, List, [], ◌∷◌, ◌++◌, map, length, get_or, take, set, Some, None, Option, Result, sym, refl, ap, ◌∙◌, subst, ⊎_elim, arith}
-use Rattle.std.proofs.lemmas.List.{take_more, take_more_set, take_all, get_or-take, map-append}
-use Rattle.std.proofs.lemmas.Bool.{cases_lt}
+use Rattle.std.proofs.Common.{◌≡◌, ℕ, zero, suc, ◌+◌, ◌<◌, ◌≤◌, List, [], ◌∷◌, ◌++◌, map, length, get_or, take, set, Some, None, Option, Result, sym, refl, ap, ◌∙◌, subst, arith}
+use Rattle.std.proofs.Math.ListN.{get_or-map}
+use Rattle.std.proofs.lemmas.List.{take_more, take_more_set, get_or-take, map-append}
 use Rattle.rates.specs.Model.{Model, Lawful}
 use Rattle.rates.specs.Refusals.{Told, accepted, refused, seen}
 use Rattle.sheet.specs.declared.fault.SheetFault.{SheetFault}
@@ -21,26 +21,14 @@ use Rattle.session.specs.Answers.{heard, heard_in}
 use Rattle.session.specs.Runs.{Shared, answered, after, run, answers}
 use Rattle.session.specs.Promises.{StrikesAreRoots}
 
--- the reply of a call that does not strike is no price
-abbrev is_price : Reply → ℕ
-is_price (reply.First w) = 0
-is_price (reply.Saved at n) = 0
-is_price (reply.Read e) = 0
-is_price (reply.Costs c) = 0
-is_price (reply.Fitted s) = 0
-is_price (reply.Struck p) = 1
-
-abbrev told_price : Told Reply → ℕ
-told_price (accepted r) = is_price r
-told_price (refused f) = 0
-
-no_price : {X : Type 0} (f : X → Reply) → ((x : X) → is_price (f x) ≡ 0) → (t : Told X) → told_price (seen f t) ≡ 0
-no_price f h (accepted x) = h x
-no_price f h (refused r) = refl
+-- a call whose reply is another is not told a price
+not_struck : {X : Type 0} (f : X → Reply) (p : Struck) → ((x : X) → f x ≡ reply.Struck p → ⊥) → (t : Told X) → seen f t ≡ accepted (reply.Struck p) → ⊥
+not_struck f p other (accepted x) e = other x (cc)
+not_struck f p other (refused r) e = cc
 
 price_struck : (o : Option SheetFault) (q p : Struck) → seen reply.Struck (answer o q) ≡ accepted (reply.Struck p) → (o ≡ None) × (p ≡ q)
 price_struck None q p e = (refl, cc)
-price_struck (Some f) q p e = absurd (let z : ◌≡◌ {A = ℕ} 0 1 = ap told_price e in omega arith)
+price_struck (Some f) q p e = absurd cc
 
 module _ (m : Model) (σ : ℕ → ℕ → ℕ) where
   abbrev pub Stands : Shared → Type 0
@@ -51,13 +39,13 @@ module _ (m : Model) (σ : ℕ → ℕ → ℕ) where
 
   -- only a strike answers a price, and only one that is not refused
   struck_answer : (c : Call) (z : Shared) (p : Struck) → answered m σ c z ≡ accepted (reply.Struck p) → (strike_fault m z.state z.values ≡ None) × (p ≡ struck m z.state z.values)
-  struck_answer (Edit e) z p h = absurd (let w : ◌≡◌ {A = ℕ} 0 1 = sym (no_price reply.First (λ _. refl) _) ∙ ap told_price h in omega arith)
-  struck_answer (Load b) z p h = absurd (let w : ◌≡◌ {A = ℕ} 0 1 = sym (no_price reply.First (λ _. refl) _) ∙ ap told_price h in omega arith)
-  struck_answer (Save n) z p h = absurd (let w : ◌≡◌ {A = ℕ} 0 1 = sym (no_price (reply.Saved z.used) (λ _. refl) _) ∙ ap told_price h in omega arith)
-  struck_answer (Back n) z p h = absurd (let w : ◌≡◌ {A = ℕ} 0 1 = sym (no_price reply.First (λ _. refl) _) ∙ ap told_price h in omega arith)
-  struck_answer (Read t j) z p h = absurd (let w : ◌≡◌ {A = ℕ} 0 1 = sym (no_price reply.Read (λ _. refl) _) ∙ ap told_price h in omega arith)
-  struck_answer Cost z p h = absurd (let w : ◌≡◌ {A = ℕ} 0 1 = ap told_price h in omega arith)
-  struck_answer (Fit want) z p h = absurd (let w : ◌≡◌ {A = ℕ} 0 1 = sym (no_price reply.Fitted (λ _. refl) _) ∙ ap told_price h in omega arith)
+  struck_answer (Edit e) z p h = absurd (not_struck reply.First p (λ x q. cc) _ h)
+  struck_answer (Load b) z p h = absurd (not_struck reply.First p (λ x q. cc) _ h)
+  struck_answer (Save n) z p h = absurd (not_struck (reply.Saved z.used) p (λ x q. cc) _ h)
+  struck_answer (Back n) z p h = absurd (not_struck reply.First p (λ x q. cc) _ h)
+  struck_answer (Read t j) z p h = absurd (not_struck reply.Read p (λ x q. cc) _ h)
+  struck_answer Cost z p h = absurd cc
+  struck_answer (Fit want) z p h = absurd (not_struck reply.Fitted p (λ x q. cc) _ h)
   struck_answer Strike z p h = price_struck (strike_fault m z.state z.values) (struck m z.state z.values) p h
 
   run_push : (xs : List Call) (c : Call) (z : Shared) → run m σ (xs ++ c ∷ []) z ≡ after m σ c (run m σ xs z)
@@ -91,18 +79,13 @@ module _ (m : Model) (σ : ℕ → ℕ → ℕ) where
   answer_at (x ∷ xs) zero d z h = refl
   answer_at (x ∷ xs) (suc i) d z h = answer_at xs i d (after m σ x z) (omega arith)
 
-  heard_at : (given : List (Option (Result Reply Fault))) (i : ℕ) → get_or (map heard_in given) i None ≡ heard_in (get_or given i None)
-  heard_at [] i = refl
-  heard_at (x ∷ xs) zero = refl
-  heard_at (x ∷ xs) (suc i) = heard_at xs i
-
   -- what was struck on a state that stands
   pub strikes : Lawful m → (xs : List Call) (z : Shared) (given : List (Option (Result Reply Fault))) →
       map heard_in (take (length xs) given) ≡ map Some (answers m σ xs z) → ((k : ℕ) → k ≤ length xs → Stands (run m σ (take k xs) z)) → StrikesAreRoots m σ xs z given
   strikes laws xs z given heard_all stood i p l is =
       let y = run m σ (take i xs) z in
       let here : heard_in (get_or given i None) ≡ Some (answered m σ (get_or xs i Cost) y) =
-      ap heard_in (sym (get_or-take (length xs) given i None l)) ∙ sym (heard_at (take (length xs) given) i) ∙ ap (λ l. get_or l i None) heard_all ∙ answer_at xs i Cost z l in
+      ap heard_in (sym (get_or-take (length xs) given i None l)) ∙ sym (get_or-map heard_in (take (length xs) given) i None) ∙ ap (λ l. get_or l i None) heard_all ∙ answer_at xs i Cost z l in
       let said : answered m σ (get_or xs i Cost) y ≡ accepted (reply.Struck p) = let e : Some (answered m σ (get_or xs i Cost) y) ≡ Some (accepted (reply.Struck p)) = sym here ∙ ap heard_in is in cc in
       let q = struck_answer (get_or xs i Cost) y p said in
       let figure = struck_root laws σ y.state y.values y.marks (stood i (omega arith)) q.0 in
@@ -112,11 +95,3 @@ module _ (m : Model) (σ : ℕ → ℕ → ℕ) where
 pub left_admitted : (n w : ℕ) (o : Option SheetFault) (s : State) {s' : State} → s' ≡ unless o (record { terms = s.terms; spread = s.spread; first = w }) s → Admitted n s.terms s.spread → Admitted n s'.terms s'.spread
 left_admitted n w None s e a = subst (λ (x : State). Admitted n x.terms x.spread) (sym e) a
 left_admitted n w (Some f) s e a = subst (λ (x : State). Admitted n x.terms x.spread) (sym e) a
-
--- as many calls as there is room for answers
-pub roomy : (xs : List Call) (room i : ℕ) → i ≤ length xs → i ≤ room → (i < length xs → room ≤ i) → take i xs ≡ take room xs
-roomy xs room i a b c =
-    ⊎_elim
-    (λ (l : i < length xs). let e : i ≡ room = let r = c l in omega arith in ap (λ k. take k xs) e)
-    (λ (l : length xs ≤ i). take_all i xs l ∙ sym (take_all room xs (omega arith)))
-    (cases_lt i (length xs))
