@@ -10,7 +10,8 @@ use Rattle.std.proofs.lemmas.List.{length-map}
 use Rattle.std.proofs.lemmas.Bool.{true≢false, false≢true, cond-true, cond-false, cond_both, and_left, and_right, leb-true, leb-false, le-leb, lt-leb, le-ltb, ne_eqb}
 use Rattle.rates.specs.Model.{Lawful, capped}
 use Rattle.rates.proofs.Rounding.{rounded_rises, rounded_within}
-use Rattle.maker.specs.States.{wide, nodes_of, turned, entry_at, shared, two_states}
+use Rattle.rates.specs.Formulas.{entry_at}
+use Rattle.maker.specs.States.{wide, nodes_of, turned, shared, two_states}
 
 pub shared_rises : (d e a b x y : ℕ) → 1000000 ≤ e → e ≤ d → a ≤ x → b ≤ y → shared d a b ≤ shared e x y
 shared_rises d e a b x y some h p q = rounded_rises _ _ _ _ (omega arith) (omega arith) (omega arith)

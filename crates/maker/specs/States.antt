@@ -5,14 +5,14 @@
 --   turned       the other state
 --   rate_of      the rate of a state
 --   growth       a whole of 1,000,000, plus the rate of a state, plus a spread
---   entry_at     an entry of a row, capped
 --   shared       three parts of the entry where the state stays and one where it turns, by the growth, rounded down
 --   fits         step, node, spread and row fit
 --   two_states   what the lattice means: the shared figure where all fits, and 0 elsewhere
 --   makeable     1 to 64 steps
 -- Assumes nothing.
-use Rattle.std.specs.Prelude.{ℕ, ◌+◌, ◌-◌, ◌*◌, ◌/◌, min, Bool, cond, ◌&&◌, List, length, ◌==◌, nat_le, nat_lt, slice_index}
-use Rattle.rates.specs.Model.{Model, capped}
+use Rattle.std.specs.Prelude.{ℕ, ◌+◌, ◌-◌, ◌*◌, ◌/◌, min, Bool, cond, ◌&&◌, List, length, ◌==◌, nat_le, nat_lt}
+use Rattle.rates.specs.Formulas.{entry_at}
+use Rattle.rates.specs.Model.{Model}
 
 abbrev pub wide : ℕ → ℕ
 wide t = 1 + min t 1
@@ -28,9 +28,6 @@ rate_of low high j = cond (j == 0) low high
 
 abbrev pub growth : ℕ → ℕ → ℕ → ℕ → ℕ
 growth low high j s = 1000000 + rate_of low high j + s
-
-abbrev pub entry_at : List ℕ → ℕ → ℕ
-entry_at xs k = capped (slice_index xs k)
 
 abbrev pub shared : ℕ → ℕ → ℕ → ℕ
 shared d stays turns = (3 * stays + turns) * 1000000 / (4 * d)

@@ -10,8 +10,66 @@ use split::Split;
 use states::TwoStates;
 use std::io;
 
-// The sheet of a maker.
-type Bond = Sheet<TwoStates, Split>;
+// A maker's sheet, with the rows that it is worked in.
+#[derive(Drop)]
+struct Bond {
+    lattice: TwoStates,
+    sheet: Sheet<TwoStates, Split>,
+    values: [u32; 7],
+    marks: [u8; 7],
+}
+
+impl Bond {
+    fn open(lattice: TwoStates) -> Bond {
+        Bond {
+            lattice,
+            sheet: Sheet::open(lattice, Split),
+            values: [0; 7],
+            marks: [0; 7],
+        }
+    }
+
+    // Coupons, one of them past the last step; calls at steps 1 and 2; a put at step 1 that is paid a step later.
+    fn edit(&mut self, rt: &HostRuntime) -> io::Result<()> {
+        let sheet = &mut self.sheet;
+        say(rt, "coupon 1 50000", sheet.coupon(1, 50_000))?;
+        say(rt, "coupon 2 50000", sheet.coupon(2, 50_000))?;
+        say(rt, "coupon 3 50000", sheet.coupon(3, 50_000))?;
+        say(rt, "coupon 4 50000", sheet.coupon(4, 50_000))?;
+        say(rt, "call 1 1000000 0", sheet.call(1, 1_000_000, 0))?;
+        say(rt, "call 2 985000 0", sheet.call(2, 985_000, 0))?;
+        say(rt, "put 1 990000 1", sheet.put(1, 990_000, 1))
+    }
+
+    fn back(&mut self, rt: &HostRuntime) -> io::Result<()> {
+        let first = self.sheet.back(4, &mut self.values, &mut self.marks);
+        say(rt, "back 4", first)
+    }
+
+    fn read(&self, rt: &HostRuntime, t: usize, j: usize) -> io::Result<()> {
+        print!(rt; "read {t} {j}            ")?;
+        match self.sheet.read(t, j, &self.values, &self.marks) {
+            Ok(node) => println!(rt; "figure {} mark {}", node.figure, node.mark),
+            Err(fault) => refused(rt, fault),
+        }
+    }
+
+    // Each node of each step, and one past the last.
+    fn read_all(&self, rt: &HostRuntime) -> io::Result<()> {
+        for t in 0..=self.lattice.steps() {
+            for j in 0..=self.lattice.nodes(t) {
+                self.read(rt, t, j)?;
+            }
+        }
+        Ok(())
+    }
+
+    fn cost(&self, rt: &HostRuntime) -> io::Result<()> {
+        let costs = self.sheet.cost();
+        println!(rt; "root                figure {}", self.sheet.root_figure())?;
+        println!(rt; "cost                call {} put {}", costs.call, costs.put)
+    }
+}
 
 fn refused(rt: &HostRuntime, fault: SheetFault) -> io::Result<()> {
     let number = fault.number();
@@ -27,75 +85,17 @@ fn say(rt: &HostRuntime, done: &str, answer: Result<usize, SheetFault>) -> io::R
     }
 }
 
-fn read(
-    rt: &HostRuntime,
-    bond: &Bond,
-    t: usize,
-    j: usize,
-    values: &[u32],
-    marks: &[u8],
-) -> io::Result<()> {
-    print!(rt; "read {t} {j}            ")?;
-    match bond.read(t, j, values, marks) {
-        Ok(node) => {
-            let figure = node.figure;
-            let mark = node.mark;
-            println!(rt; "figure {figure} mark {mark}")
-        }
-        Err(fault) => refused(rt, fault),
-    }
-}
-
-// Each node of each step, and one past the last.
-fn read_all(
-    rt: &HostRuntime,
-    lattice: TwoStates,
-    bond: &Bond,
-    values: &[u32],
-    marks: &[u8],
-) -> io::Result<()> {
-    for t in 0..lattice.steps() + 1 {
-        for j in 0..lattice.nodes(t) + 1 {
-            read(rt, bond, t, j, values, marks)?;
-        }
-    }
-    Ok(())
-}
-
-fn cost(rt: &HostRuntime, bond: &Bond) -> io::Result<()> {
-    let root = bond.root_figure();
-    let costs = bond.cost();
-    let call = costs.call;
-    let put = costs.put;
-    println!(rt; "root                figure {root}")?;
-    println!(rt; "cost                call {call} put {put}")
-}
-
-// Coupons, one of them past the last step; calls at steps 1 and 2; a put at step 1 that is paid a step later.
-fn edit(rt: &HostRuntime, bond: &mut Bond) -> io::Result<()> {
-    say(rt, "coupon 1 50000", bond.coupon(1, 50_000))?;
-    say(rt, "coupon 2 50000", bond.coupon(2, 50_000))?;
-    say(rt, "coupon 3 50000", bond.coupon(3, 50_000))?;
-    say(rt, "coupon 4 50000", bond.coupon(4, 50_000))?;
-    say(rt, "call 1 1000000 0", bond.call(1, 1_000_000, 0))?;
-    say(rt, "call 2 985000 0", bond.call(2, 985_000, 0))?;
-    say(rt, "put 1 990000 1", bond.put(1, 990_000, 1))
-}
-
 fn work(rt: &HostRuntime, lattice: TwoStates) -> io::Result<()> {
-    let nodes = all_nodes(&lattice);
-    println!(rt; "nodes {nodes}")?;
-    let mut values = [0; 7];
-    let mut marks = [0; 7];
-    let mut bond = Sheet::open(lattice, Split);
-    edit(rt, &mut bond)?;
-    say(rt, "back 4", bond.back(4, &mut values, &mut marks))?;
-    read_all(rt, lattice, &bond, &values, &marks)?;
-    cost(rt, &bond)?;
-    say(rt, "spread 10000", bond.spread(10_000))?;
-    say(rt, "back 4", bond.back(4, &mut values, &mut marks))?;
-    read(rt, &bond, 0, 0, &values, &marks)?;
-    cost(rt, &bond)
+    println!(rt; "nodes {}", all_nodes(&lattice))?;
+    let mut bond = Bond::open(lattice);
+    bond.edit(rt)?;
+    bond.back(rt)?;
+    bond.read_all(rt)?;
+    bond.cost(rt)?;
+    say(rt, "spread 10000", bond.sheet.spread(10_000))?;
+    bond.back(rt)?;
+    bond.read(rt, 0, 0)?;
+    bond.cost(rt)
 }
 
 fn main(rt: HostRuntime) -> io::Result<()> {

@@ -1,7 +1,8 @@
 // A lattice of two states: from a low start, each step stays in its state with three parts in four.
 ghost use Rattle.std.specs.Prelude.{◌≡◌, ◌-◌, ◌<◌, ◌≤◌, true, false, length, MatchOption};
+ghost use Rattle.rates.specs.Formulas.{entry_at};
 ghost use Rattle.maker.specs.Laws.{two_states_lawful};
-ghost use Rattle.maker.specs.States.{wide as wide_of, shared as shared_of, entry_at, rate_of, makeable, two_states};
+ghost use Rattle.maker.specs.States.{wide as wide_of, shared as shared_of, rate_of, makeable, two_states};
 
 use lattice::Lattice;
 
@@ -22,6 +23,7 @@ fn wide(t: usize) -> usize
 }
 
 // An entry of a row; one above 650,000,000 counts as that.
+// A maker's crate stands alone: the supplied lattices keep a function like this to themselves.
 fn entry(row: &[u32], k: usize) -> u64
     requires { k < length row.now }
     ensures { result ≡ entry_at row.now k }
