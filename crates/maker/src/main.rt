@@ -5,6 +5,7 @@ mod split;
 mod states;
 
 use lattice::Lattice;
+use rates::fault::Ground;
 use sheet::{Sheet, SheetFault, all_nodes};
 use split::Split;
 use states::TwoStates;
@@ -49,7 +50,7 @@ impl Bond {
     fn read(&self, rt: &HostRuntime, t: usize, j: usize) -> io::Result<()> {
         print!(rt; "read {t} {j}            ")?;
         match self.sheet.read(t, j, &self.values, &self.marks) {
-            Ok(node) => println!(rt; "figure {} mark {}", node.figure, node.mark),
+            Ok(node) => println!(rt; "{node}"),
             Err(fault) => refused(rt, fault),
         }
     }
@@ -65,16 +66,13 @@ impl Bond {
     }
 
     fn cost(&self, rt: &HostRuntime) -> io::Result<()> {
-        let costs = self.sheet.cost();
         println!(rt; "root                figure {}", self.sheet.root_figure())?;
-        println!(rt; "cost                call {} put {}", costs.call, costs.put)
+        println!(rt; "cost                {}", self.sheet.cost())
     }
 }
 
 fn refused(rt: &HostRuntime, fault: SheetFault) -> io::Result<()> {
-    let number = fault.number();
-    let at = fault.place().at;
-    println!(rt; "refused {number} {at}")
+    println!(rt; "refused {} {}", fault.number(), fault.place().at)
 }
 
 fn say(rt: &HostRuntime, done: &str, answer: Result<usize, SheetFault>) -> io::Result<()> {
