@@ -98,6 +98,7 @@ fn perform_request(rt: &HostRuntime) -> io::Result<()> {
             perform_text(rt, &text)
         }
         Request::File(path) => {
+            // by arms: the failure is told before it is passed on
             let text = match fs::read(rt, path.as_str()) {
                 Ok(text) => text,
                 Err(e) => {

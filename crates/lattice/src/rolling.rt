@@ -4,6 +4,7 @@ ghost use Rattle.rates.specs.Formulas.{width, rounded, weighted, formula, entry_
 ghost use Rattle.rates.specs.Kinds.{plain};
 
 use rates::kind::Kind;
+use rates::row::entry;
 use rates::weights::Weights;
 
 // The answer for node `j`, from the rate of the node and a row for the next step.
@@ -38,14 +39,6 @@ fn part(weight: u32, row: &[u32], k: usize) -> u64
     ensures bound { result ≤ weight * 650000000 }
 {
     u64::from(weight) * entry(row, k)
-}
-
-// An entry of a row; one above 650,000,000 counts as that.
-fn entry(row: &[u32], k: usize) -> u64
-    requires { k < length row.now }
-    ensures { result ≡ entry_at row.now k }
-{
-    u64::from(row[k].min(650_000_000))
 }
 
 // A rounded quotient that is no greater than an entry may be.

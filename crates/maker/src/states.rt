@@ -5,6 +5,7 @@ ghost use Rattle.maker.specs.Laws.{two_states_lawful};
 ghost use Rattle.maker.specs.States.{wide as wide_of, shared as shared_of, rate_of, makeable, two_states};
 
 use lattice::Lattice;
+use rates::row::entry;
 
 #[derive(Clone, Copy)]
 pub struct TwoStates {
@@ -20,15 +21,6 @@ fn wide(t: usize) -> usize
     ensures { result ≡ wide_of t }
 {
     if t == 0 { 1 } else { 2 }
-}
-
-// An entry of a row; one above 650,000,000 counts as that.
-// A maker's crate stands alone: the supplied lattices keep a function like this to themselves.
-fn entry(row: &[u32], k: usize) -> u64
-    requires { k < length row.now }
-    ensures { result ≡ entry_at row.now k }
-{
-    u64::from(row[k].min(650_000_000))
 }
 
 // What a state is worth, from the entry where it stays and the entry where it turns.

@@ -3,5 +3,6 @@
 
 pub mod fault;
 pub mod kind;
+pub mod row;
 pub mod table;
 pub mod weights;

@@ -21,10 +21,10 @@ pub fn check_rates(want: usize, rates: &[u32]) -> Result<(), LatticeFault>
     if rates.len() != want {
         return Err(LatticeFault::Length(want));
     }
-    match first_over(rates) {
-        Some(index) => Err(LatticeFault::Rate(index)),
-        None => Ok(()),
+    if let Some(index) = first_over(rates) {
+        return Err(LatticeFault::Rate(index));
     }
+    Ok(())
 }
 
 // The index of the first rate that is too great.

@@ -93,7 +93,8 @@ impl<L: Lattice, K: ClashRule> Valuation<'_, L, K> {
         step.figures[0]
     }
 
-    // The greatest spread whose root figure is at least `want`, by halving.
+    // The greatest spread whose root figure is at least `want`, by halving: the spreads are no slice, which the
+    // library's `partition_point` would halve.
     pub(crate) fn greatest_spread(&self, want: u32) -> u32
         requires { want ≤ root (L.Lattice.model self.now.lattice.now) (K.ClashRule.settled self.now.clash.now) self.now.terms.now 0 }
         ensures { Greatest (L.Lattice.model self.now.lattice.now) (K.ClashRule.settled self.now.clash.now) self.now.terms.now want result }

@@ -1,4 +1,5 @@
 // Terms and a spread in the making, which a sheet can put in force all at once.
+// A public call is one line over a private function of its promise: so a wrong one is refused here, not in a proof.
 ghost use Rattle.std.specs.Prelude.{◌≡◌, ◌+◌, ◌≤◌, true};
 ghost use Rattle.sheet.specs.Faults.{tested, unless};
 ghost use Rattle.sheet.specs.Edits.{amount_fault, spread_fault, edit_fault, edited};

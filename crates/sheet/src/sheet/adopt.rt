@@ -1,4 +1,5 @@
 // Terms and a spread put in force all at once.
+// A public call is one line over a private function of its promise: so a wrong one is refused here, not in a proof.
 ghost use Rattle.std.specs.Prelude.{◌≡◌};
 ghost use Rattle.sheet.specs.Edits.{opened};
 ghost use Rattle.sheet.specs.Promises.{Adopted};

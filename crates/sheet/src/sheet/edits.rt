@@ -1,4 +1,5 @@
-// The edits of a sheet. Each answers the first worked step after it.
+// The edits of a sheet by the names that a host knows, each one line over `edit`, which takes any of them. Each answers
+// the first worked step after it.
 ghost use Rattle.std.specs.Prelude.{◌≡◌};
 ghost use Rattle.game.specs.declared.terms.Kind.TheVariants.{Call as Calls, Put as Puts};
 ghost use Rattle.sheet.specs.declared.edit.Edit.TheVariants.{Coupon, Enter, Cancel, Redeem, Spread as Respread};

@@ -1,4 +1,5 @@
 // Striking a price from the worked root.
+// A public call is one line over a private function of its promise: so a wrong one is refused here, not in a proof.
 ghost use Rattle.std.specs.Prelude.{◌≡◌, ℕ, List, None};
 ghost use Rattle.rates.specs.Refusals.{told};
 ghost use Rattle.game.specs.Game.{root};

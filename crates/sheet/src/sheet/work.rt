@@ -1,4 +1,5 @@
 // Working back into lent rows, and reading what they hold.
+// A public call is one line over a private function of its promise: so a wrong one is refused here, not in a proof.
 ghost use Rattle.std.specs.Prelude.{◌≡◌, ℕ, ◌<◌, List, length, slice_index};
 ghost use Rattle.rates.specs.Refusals.{told};
 ghost use Rattle.game.specs.Stored.{all_nodes as nodes_of};
