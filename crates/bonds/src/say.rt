@@ -1,4 +1,4 @@
-// Answers as they are printed.
+// Answers as they are printed. The program hellasum has functions of the same shape: it ends its lines and names the layer.
 use rates::fault::Ground;
 use sheet::{Released, SheetFault, Struck};
 use std::fmt::Display;

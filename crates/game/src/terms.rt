@@ -27,8 +27,8 @@ pub struct Right {
     pub notice: u8,
 }
 
-// The redemption, the coupon of each step, and each step's rights. Where a step has no right,
-// there is none: no price stands in for it.
+// The redemption, the coupon of each step, and each step's rights, in tables of fixed size, as no call allocates. Where a
+// step has no right, there is none: no price stands in for it.
 #[derive(Clone, Copy)]
 pub struct Terms {
     pub redemption: u32,

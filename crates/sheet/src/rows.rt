@@ -1,4 +1,4 @@
-// Rows of one step, rolled back a step at a time. A row has room for the widest step.
+// Rows of one step, rolled back a step at a time. A row has room for the widest step, as no call allocates.
 ghost use Rattle.std.specs.Prelude.{◌≡◌, ℕ, ◌+◌, ◌<◌, ◌≤◌, map, slice_index};
 ghost use Rattle.rates.specs.Model.{capped};
 ghost use Rattle.game.specs.Game.{rolled_on, stream};

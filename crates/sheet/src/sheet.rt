@@ -21,6 +21,7 @@ mod strike;
 pub mod work;
 mod worth;
 
+// That a call leaves `lattice` and `clash` as they were is said at each (`same`): an invariant says nothing of before and after.
 #[derive(Drop)]
 pub struct Sheet<L: Lattice, K: ClashRule> {
     lattice: L,
