@@ -6,19 +6,18 @@
 --   rate_of      the rate of a state
 --   growth       a whole of 1,000,000, plus the rate of a state, plus a spread
 --   shared       three parts of the entry where the state stays and one where it turns, by the growth, rounded down
---   fits         step, node, spread and row fit
 --   two_states   what the lattice means: the shared figure where all fits, and 0 elsewhere
 --   makeable     1 to 64 steps
 -- Assumes nothing.
-use Rattle.std.specs.Prelude.{ℕ, ◌+◌, ◌-◌, ◌*◌, ◌/◌, min, Bool, cond, ◌&&◌, List, length, ◌==◌, nat_le, nat_lt}
-use Rattle.rates.specs.Formulas.{entry_at}
+use Rattle.std.specs.Prelude.{ℕ, ◌+◌, ◌-◌, ◌*◌, ◌/◌, min, Bool, cond, ◌&&◌, ◌==◌, nat_le}
+use Rattle.rates.specs.Formulas.{entry_at, up_to, fitting}
 use Rattle.rates.specs.Model.{Model}
 
 abbrev pub wide : ℕ → ℕ
 wide t = 1 + min t 1
 
 abbrev pub nodes_of : ℕ → ℕ → ℕ
-nodes_of N t = cond (nat_le t N) (wide t) 0
+nodes_of N = up_to N wide
 
 abbrev pub turned : ℕ → ℕ
 turned j = 1 - j
@@ -32,14 +31,11 @@ growth low high j s = 1000000 + rate_of low high j + s
 abbrev pub shared : ℕ → ℕ → ℕ → ℕ
 shared d stays turns = (3 * stays + turns) * 1000000 / (4 * d)
 
-abbrev pub fits : ℕ → ℕ → ℕ → ℕ → List ℕ → Bool
-fits N t j s xs = nat_lt t N && (nat_lt j (nodes_of N t) && (nat_le s 200000 && length xs == nodes_of N (t + 1)))
-
 abbrev pub two_states : ℕ → ℕ → ℕ → Model
 two_states low high N = record {
   steps = N;
   count = nodes_of N;
-  rolled = λ t j s xs. cond (fits N t j s xs) (shared (growth low high j s) (entry_at xs j) (entry_at xs (turned j))) 0;
+  rolled = λ t j s xs. cond (fitting N (nodes_of N) t j s xs) (shared (growth low high j s) (entry_at xs j) (entry_at xs (turned j))) 0;
 }
 
 abbrev pub makeable : ℕ → Bool

@@ -2,17 +2,18 @@
 --   Keeps   what the laws ask of a formula: it rises with its entries, falls with the divisor,
 --           and stays within the greatest entry
 -- Assumes nothing.
-use Rattle.std.proofs.Common.{◌≡◌, ℕ, zero, suc, ◌+◌, ◌*◌, ◌<◌, ◌≤◌, Bool, true, false, cond, ◌&&◌, eqb, ltb, leb, List, [], ◌∷◌, map, length, get_or, refl, ap, le_refl, mul-le-mul_left, arith}
+use Rattle.std.proofs.Common.{◌≡◌, ℕ, ◌+◌, ◌*◌, ◌≤◌, ◌&&◌, eqb, ltb, leb, List, refl, ap, le_refl, mul-le-mul_left, arith}
 use Rattle.std.proofs.lemmas.Bool.Decides.{nat_tests}
 use Rattle.std.proofs.lemmas.List.{length-map}
 use Rattle.std.proofs.lemmas.Bool.{cond-false, and_left, and_right, le-ltb, lt-leb, ne_eqb}
-use Rattle.rates.specs.Formulas.{width, weighted, formula, entry_at, up_to, supplied}
+use Rattle.rates.specs.Formulas.{width, weighted, formula, up_to, supplied}
 use Rattle.rates.specs.Kinds.{plain}
 use Rattle.rates.specs.Model.{Lawful, capped}
 use Rattle.rates.specs.declared.kind.Kind.{Kind}
 use Rattle.rates.specs.declared.kind.Kind.TheVariants.{Binomial, Trinomial, WorstCase}
 use Rattle.rates.specs.declared.weights.Weights.{Weights}
 use Rattle.rates.proofs.Rounding.{rounded_rises, rounded_within}
+use Rattle.rates.proofs.Entries.{capped_at, within_at, under_at, cond_under, cond_spread, cond_within}
 
 record Keeps (answer : ℕ → ℕ → ℕ → ℕ → ℕ) : Type 0 where
   rises : (D E a b c x y z : ℕ) → 1000000 ≤ E → E ≤ D → a ≤ x → b ≤ y → c ≤ z → answer D a b c ≤ answer E x y z
@@ -60,34 +61,6 @@ width_fits : {W : Type 0} (kind : Kind W) (t : ℕ) → t ≤ 64 → (1 ≤ widt
 width_fits Binomial t h = (omega arith, omega arith)
 width_fits (Trinomial w) t h = (omega arith, omega arith)
 width_fits (WorstCase v w) t h = (omega arith, omega arith)
-
-capped_at : (xs : List ℕ) (k : ℕ) → entry_at xs k ≡ entry_at (map capped xs) k
-capped_at [] k = refl
-capped_at (x ∷ xs) zero = omega arith
-capped_at (x ∷ xs) (suc k) = capped_at xs k
-
-within_at : (xs : List ℕ) (most : ℕ) → ((k : ℕ) → k < length xs → get_or xs k 0 ≤ most) → (k : ℕ) → entry_at xs k ≤ most
-within_at [] most h k = omega arith
-within_at (x ∷ xs) most h zero = omega (arith, h 0 (omega arith))
-within_at (x ∷ xs) most h (suc k) = within_at xs most (λ i w. h (suc i) (omega arith)) k
-
-under_at : (xs ys : List ℕ) → length xs ≡ length ys → ((k : ℕ) → k < length xs → get_or xs k 0 ≤ get_or ys k 0) → (k : ℕ) → entry_at xs k ≤ entry_at ys k
-under_at [] ys e h k = omega arith
-under_at (x ∷ xs) [] e h k = absurd (let z : suc (length xs) ≡ 0 = e in omega arith)
-under_at (x ∷ xs) (y ∷ ys) e h zero = omega (arith, h 0 (omega arith))
-under_at (x ∷ xs) (y ∷ ys) e h (suc k) = under_at xs ys (omega (arith, e)) (λ i w. h (suc i) (omega arith)) k
-
-cond_under : (b c : Bool) (x y : ℕ) → b ≡ c → x ≤ y → cond b x 0 ≤ cond c y 0
-cond_under b c x y e h = grind arith
-
-cond_spread : (a b e : Bool) (s r x y : ℕ) → s ≤ r → x ≤ y → cond (a && (b && (leb r 200000 && e))) x 0 ≤ cond (a && (b && (leb s 200000 && e))) y 0
-cond_spread true true e s r x y h k = grind (arith, nat_tests)
-cond_spread true false e s r x y h k = le_refl _
-cond_spread false b e s r x y h k = le_refl _
-
-cond_within : (b : Bool) (x y : ℕ) → x ≤ y → cond b x 0 ≤ y
-cond_within true x y h = h
-cond_within false x y h = omega arith
 
 pub supplied_lawful : (kind : Kind Weights) (N : ℕ) (rates : List ℕ) → 1 ≤ N → N ≤ 64 → Lawful (supplied (plain kind) N rates)
 supplied_lawful kind N rates one few =

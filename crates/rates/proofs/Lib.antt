@@ -1,3 +1,4 @@
 pub mod Rounding
+pub mod Entries
 pub mod Laws
 pub mod Tables
