@@ -2,6 +2,7 @@
 -- lattices and a maker's. Assumes nothing.
 use Rattle.std.proofs.Common.{◌≡◌, ℕ, zero, suc, ◌<◌, ◌≤◌, Bool, true, false, cond, ◌&&◌, leb, List, [], ◌∷◌, map, length, get_or, refl, le_refl, arith}
 use Rattle.std.proofs.lemmas.Bool.Decides.{nat_tests}
+use Rattle.std.proofs.lemmas.Bool.{false≢true}
 use Rattle.rates.specs.Formulas.{entry_at}
 use Rattle.rates.specs.Model.{capped}
 
@@ -24,8 +25,13 @@ under_at (x ∷ xs) (y ∷ ys) e h (suc k) = under_at xs ys (omega (arith, e)) (
 pub cond_under : (b c : Bool) (x y : ℕ) → b ≡ c → x ≤ y → cond b x 0 ≤ cond c y 0
 cond_under b c x y e h = grind arith
 
+pub cond_less : (b c e : Bool) (x y : ℕ) → (b ≡ true → c ≡ true) → x ≤ y → cond (b && e) x 0 ≤ cond (c && e) y 0
+cond_less true true e x y i h = cond_under e e x y refl h
+cond_less true false e x y i h = absurd (false≢true (i refl))
+cond_less false c e x y i h = omega arith
+
 pub cond_spread : (a b e : Bool) (s r x y : ℕ) → s ≤ r → x ≤ y → cond (a && (b && (leb r 200000 && e))) x 0 ≤ cond (a && (b && (leb s 200000 && e))) y 0
-cond_spread true true e s r x y h k = grind (arith, nat_tests)
+cond_spread true true e s r x y h k = cond_less (leb r 200000) (leb s 200000) e x y (λ p. grind (arith, nat_tests)) k
 cond_spread true false e s r x y h k = le_refl _
 cond_spread false b e s r x y h k = le_refl _
 
