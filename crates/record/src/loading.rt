@@ -1,5 +1,6 @@
 // Puts the terms and the spread of a record in force.
-// A public call is one line over a private function of its promise: so a wrong one is refused here, not in a proof.
+// Where its proof needs answers, a public call is one line over a private function of its promise: so a wrong one is
+// refused here, not in a proof.
 ghost use Rattle.std.specs.Prelude.{◌≡◌, IfOk};
 ghost use Rattle.sheet.specs.Edits.{opened};
 ghost use Rattle.record.specs.Decode.{then, decode};

@@ -1,5 +1,6 @@
 // Writes the record of terms and a spread.
-// A public call is one line over a private function of its promise: so a wrong one is refused here, not in a proof.
+// Where its proof needs answers, a public call is one line over a private function of its promise: so a wrong one is
+// refused here, not in a proof.
 ghost use Rattle.std.specs.Prelude.{◌≡◌, ℕ, ◌+◌, ◌≤◌, length};
 ghost use Rattle.record.specs.Encode.{encode};
 ghost use Rattle.record.specs.Puts.{Put, record_map, record_bytes};

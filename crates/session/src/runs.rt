@@ -1,5 +1,6 @@
 // A list of calls on a sheet that is opened for it.
-// A public call is one line over a private function of its promise: so a wrong one is refused here, not in a proof.
+// Where its proof needs answers, a public call is one line over a private function of its promise: so a wrong one is
+// refused here, not in a proof.
 ghost use Rattle.std.specs.Prelude.{◌≡◌, length, take};
 ghost use Rattle.session.specs.Runs.{fresh};
 ghost use Rattle.session.specs.Promises.{BestPlayAfterAnyRun};

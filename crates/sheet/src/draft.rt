@@ -1,5 +1,4 @@
 // Terms and a spread in the making, which a sheet can put in force all at once.
-// A public call is one line over a private function of its promise: so a wrong one is refused here, not in a proof.
 ghost use Rattle.std.specs.Prelude.{◌≡◌, ◌+◌, ◌≤◌, true};
 ghost use Rattle.sheet.specs.Faults.{tested, unless};
 ghost use Rattle.sheet.specs.Edits.{amount_fault, spread_fault, edit_fault, edited};
@@ -25,14 +24,6 @@ pub struct Draft {
 impl Draft {
     // Makes an edit, by the same tests as a sheet.
     pub fn edit(&mut self, edit: Edit) -> Result<(), SheetFault>
-        ensures answers { result ≡ tested (edit_fault self.old.steps self.old.state edit) }
-        ensures leaves { self.new.state ≡ unless (edit_fault self.old.steps self.old.state edit) (edited self.old.steps self.old.state edit) self.old.state }
-        ensures same { self.new.steps ≡ self.old.steps }
-    {
-        self.amend(edit)
-    }
-
-    fn amend(&mut self, edit: Edit) -> Result<(), SheetFault>
         ensures answers { result ≡ tested (edit_fault self.old.steps self.old.state edit) }
         ensures leaves { self.new.state ≡ unless (edit_fault self.old.steps self.old.state edit) (edited self.old.steps self.old.state edit) self.old.state }
         ensures same { self.new.steps ≡ self.old.steps }

@@ -1,5 +1,6 @@
 // Struck and released prices: only a struck price can be released, and only a released one prints.
-// A public call is one line over a private function of its promise: so a wrong one is refused here, not in a proof.
+// Where its proof needs answers, a public call is one line over a private function of its promise: so a wrong one is
+// refused here, not in a proof.
 ghost use Rattle.std.specs.Prelude.{◌≡◌, length};
 ghost use Rattle.rates.specs.Refusals.{told};
 ghost use Rattle.sheet.specs.Faults.{sheet_refusal, answer, unless};

@@ -1,5 +1,6 @@
 // A sheet: terms and a spread on a lattice, under a clash rule.
-// A public call is one line over a private function of its promise: so a wrong one is refused here, not in a proof.
+// Where its proof needs answers, a public call is one line over a private function of its promise: so a wrong one is
+// refused here, not in a proof.
 ghost use Rattle.std.specs.Prelude.{◌≡◌, ℕ, ◌≤◌, List};
 ghost use Rattle.game.specs.Limits.{Payable, Priced};
 ghost use Rattle.sheet.specs.Edits.{opened};

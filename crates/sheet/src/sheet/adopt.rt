@@ -1,5 +1,6 @@
 // Terms and a spread put in force all at once.
-// A public call is one line over a private function of its promise: so a wrong one is refused here, not in a proof.
+// Where its proof needs answers, a public call is one line over a private function of its promise: so a wrong one is
+// refused here, not in a proof.
 ghost use Rattle.std.specs.Prelude.{◌≡◌};
 ghost use Rattle.sheet.specs.Edits.{opened};
 ghost use Rattle.sheet.specs.Promises.{Adopted};
@@ -40,13 +41,6 @@ impl<L: Lattice, K: ClashRule> Sheet<L, K> {
 
     // Puts the terms and the spread of a draft in force, of which nothing is worked then.
     pub fn adopt(&mut self, draft: Draft) -> Result<usize, SheetFault>
-        ensures adopted { Adopted (L.Lattice.model self.old.lattice) (K.ClashRule.settled self.old.clash) draft.steps draft.state self.old.state result self.new.state }
-        ensures same { (self.new.lattice ≡ self.old.lattice) × (self.new.clash ≡ self.old.clash) }
-    {
-        self.replace(draft)
-    }
-
-    fn replace(&mut self, draft: Draft) -> Result<usize, SheetFault>
         ensures adopted { Adopted (L.Lattice.model self.old.lattice) (K.ClashRule.settled self.old.clash) draft.steps draft.state self.old.state result self.new.state }
         ensures same { (self.new.lattice ≡ self.old.lattice) × (self.new.clash ≡ self.old.clash) }
     {

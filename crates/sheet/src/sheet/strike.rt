@@ -1,5 +1,4 @@
 // Striking a price from the worked root.
-// A public call is one line over a private function of its promise: so a wrong one is refused here, not in a proof.
 ghost use Rattle.std.specs.Prelude.{◌≡◌, ℕ, List, None};
 ghost use Rattle.rates.specs.Refusals.{told};
 ghost use Rattle.game.specs.Game.{root};
@@ -19,12 +18,6 @@ impl<L: Lattice, K: ClashRule> Sheet<L, K> {
     pub fn strike(&self, values: &[u32]) -> Result<Struck, SheetFault>
         ensures answers { told sheet_refusal result ≡ answer (strike_fault (L.Lattice.model self.now.lattice) self.now.state values.now) (struck (L.Lattice.model self.now.lattice) self.now.state values.now) }
         ensures root { (marks : List ℕ) → Standing (L.Lattice.model self.now.lattice) (K.ClashRule.settled self.now.clash) self.now.state values.now marks → strike_fault (L.Lattice.model self.now.lattice) self.now.state values.now ≡ None → (struck (L.Lattice.model self.now.lattice) self.now.state values.now).figure ≡ root (L.Lattice.model self.now.lattice) (K.ClashRule.settled self.now.clash) self.now.state.terms self.now.state.spread }
-    {
-        self.root_price(values)
-    }
-
-    fn root_price(&self, values: &[u32]) -> Result<Struck, SheetFault>
-        ensures { told sheet_refusal result ≡ answer (strike_fault (L.Lattice.model self.now.lattice) self.now.state values.now) (struck (L.Lattice.model self.now.lattice) self.now.state values.now) }
     {
         let wanted = all_nodes(&self.lattice);
         if values.len() < wanted {

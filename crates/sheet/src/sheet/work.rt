@@ -1,7 +1,8 @@
 // Working back into lent rows, and reading what they hold.
 // The rows come as two slices: they are the host's, and a strike takes one of them alone. A struct of both would be made
 // for a call and taken apart in it.
-// A public call is one line over a private function of its promise: so a wrong one is refused here, not in a proof.
+// Where its proof needs answers, a public call is one line over a private function of its promise: so a wrong one is
+// refused here, not in a proof.
 ghost use Rattle.std.specs.Prelude.{◌≡◌, ℕ, ◌<◌, List, length, slice_index};
 ghost use Rattle.rates.specs.Refusals.{told};
 ghost use Rattle.game.specs.Stored.{all_nodes as nodes_of};

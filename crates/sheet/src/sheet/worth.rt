@@ -1,5 +1,6 @@
 // The root figure, worked or not, and what the rights in it are worth.
-// A public call is one line over a private function of its promise: so a wrong one is refused here, not in a proof.
+// Where its proof needs answers, a public call is one line over a private function of its promise: so a wrong one is
+// refused here, not in a proof.
 ghost use Rattle.std.specs.Prelude.{◌≡◌, ℕ};
 ghost use Rattle.game.specs.Game.{root};
 ghost use Rattle.sheet.specs.Promises.{RootFigure, Costed};

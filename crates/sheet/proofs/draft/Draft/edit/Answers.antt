@@ -5,7 +5,7 @@ use Rattle.sheet.specs.declared.state.State.{State}
 use Rattle.sheet.specs.Admits.{Admitted}
 use Rattle.sheet.proofs.Admitting.{edit_admits, edit_unworked, cleared, none_clear}
 use Rattle.sheet.proofs.Promised.{unless_keeps}
-use Rattle.sheet.proofs.draft.Draft.amend.Goals as goal
+use Rattle.sheet.proofs.draft.Draft.edit.Goals as goal
 
 pub invariant_of-self : goal.invariant_of-self
 invariant_of-self c =
