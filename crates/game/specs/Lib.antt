@@ -7,3 +7,4 @@ pub mod Compares
 pub mod Limits
 pub mod Stored
 pub mod Working
+pub mod Texts

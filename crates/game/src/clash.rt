@@ -1,7 +1,8 @@
 // What is paid where both sides exercise at one node.
-ghost use Rattle.std.specs.Prelude.{◌≡◌, ℕ};
+ghost use Rattle.std.specs.Prelude.{◌≡◌, ℕ, Some};
 ghost use Rattle.game.specs.Clash.{Fair, put_prevails, put_fair, call_prevails, call_fair, halfway, halfway_fair};
 ghost use Rattle.game.specs.Rules.{rule_of, rule_fair};
+ghost use Rattle.game.specs.Texts.{clash_text};
 
 use std::fmt;
 
@@ -81,6 +82,8 @@ impl ClashRule for AnyClash {
 }
 
 impl fmt::Display for AnyClash {
+    ghost output = { λ r. Some (clash_text r) };
+
     fn fmt<W: fmt::Write>(&self, f: &mut fmt::Formatter<W>) -> fmt::Result {
         f.write_str(match self {
             AnyClash::PutPrevails => "put",

@@ -1,6 +1,7 @@
 // Who exercises at a node.
-ghost use Rattle.std.specs.Prelude.{◌≡◌};
+ghost use Rattle.std.specs.Prelude.{◌≡◌, Some};
 ghost use Rattle.game.specs.Rule.{mark_number, MarkRead};
+ghost use Rattle.game.specs.Texts.{mark_text};
 
 use std::fmt;
 
@@ -48,8 +49,10 @@ impl TryFrom<u8> for Mark {
 
 // As a table shows it.
 impl fmt::Display for Mark {
+    ghost output = { λ m. Some (mark_text m) };
+
     fn fmt<W: fmt::Write>(&self, f: &mut fmt::Formatter<W>) -> fmt::Result {
-        f.pad(match self {
+        f.write_str(match self {
             Mark::Neither => "-",
             Mark::Call => "call",
             Mark::Put => "put",

@@ -1,6 +1,7 @@
 // The terms of a bond, in ticks and steps.
-ghost use Rattle.std.specs.Prelude.{◌≡◌, None, slice_index_or};
+ghost use Rattle.std.specs.Prelude.{◌≡◌, Some, None, slice_index_or};
 ghost use Rattle.game.specs.Game.{right as right_of};
+ghost use Rattle.game.specs.Texts.{side_text};
 
 use std::fmt;
 
@@ -12,6 +13,8 @@ pub enum Kind {
 }
 
 impl fmt::Display for Kind {
+    ghost output = { λ k. Some (side_text k) };
+
     fn fmt<W: fmt::Write>(&self, f: &mut fmt::Formatter<W>) -> fmt::Result {
         f.write_str(match self {
             Kind::Call => "call",

@@ -4,12 +4,15 @@
 --   told              a result as it is told, by what a fault of its layer says
 --   seen              a told result with what it accepted seen in another way
 --   and_then          the second of two told results, unless the first refuses
+--   layer_text        a layer in print
+--   place_text        a place in print: where, a blank, the layer
 --   lattice_number    the number of a lattice's fault
 --   lattice_place     its place
 --   lattice_refusal   both
 -- Assumes nothing.
-use Rattle.std.specs.Prelude.{ℕ, List, [], ◌∷◌, Ok, Err, Result}
-use Rattle.rates.specs.declared.fault.Layer.TheVariants.{Lattice}
+use Rattle.std.specs.Prelude.{ℕ, List, [], ◌∷◌, ◌++◌, codes, decimal, Ok, Err, Result}
+use Rattle.rates.specs.declared.fault.Layer.{Layer}
+use Rattle.rates.specs.declared.fault.Layer.TheVariants.{Lattice, Sheet, Record}
 use Rattle.rates.specs.declared.fault.Place.{Place}
 use Rattle.rates.specs.declared.fault.LatticeFault.{LatticeFault}
 use Rattle.rates.specs.declared.fault.LatticeFault.TheVariants.{Steps, Length, Rate, Weights}
@@ -33,6 +36,14 @@ seen f (refused r) = refused r
 abbrev pub and_then : {X Y : Type 0} → Told X → Told Y → Told Y
 and_then (accepted _) next = next
 and_then (refused r) next = refused r
+
+abbrev pub layer_text : Layer → List ℕ
+layer_text Lattice = codes "lattice"
+layer_text Sheet = codes "sheet"
+layer_text Record = codes "record"
+
+abbrev pub place_text : Place → List ℕ
+place_text p = decimal p.at ++ (32 ∷ layer_text p.layer)
 
 abbrev pub lattice_number : LatticeFault → ℕ
 lattice_number Steps = 3

@@ -1,6 +1,6 @@
 // Why a call is refused: what a host is told of it, and the faults of a rate table and its weights.
-ghost use Rattle.std.specs.Prelude.{◌≡◌, ℕ};
-ghost use Rattle.rates.specs.Refusals.{lattice_number, lattice_place};
+ghost use Rattle.std.specs.Prelude.{◌≡◌, ℕ, Some};
+ghost use Rattle.rates.specs.Refusals.{layer_text, place_text, lattice_number, lattice_place};
 ghost use Rattle.rates.specs.declared.fault.Place.{Place as PlaceOf};
 
 use std::fmt;
@@ -14,6 +14,8 @@ pub enum Layer {
 }
 
 impl fmt::Display for Layer {
+    ghost output = { λ l. Some (layer_text l) };
+
     fn fmt<W: fmt::Write>(&self, f: &mut fmt::Formatter<W>) -> fmt::Result {
         f.write_str(match self {
             Layer::Lattice => "lattice",
@@ -30,6 +32,8 @@ pub struct Place {
 }
 
 impl fmt::Display for Place {
+    ghost output = { λ p. Some (place_text p) };
+
     fn fmt<W: fmt::Write>(&self, f: &mut fmt::Formatter<W>) -> fmt::Result {
         let Place { at, layer } = self;
         write!(f, "{at} {layer}")

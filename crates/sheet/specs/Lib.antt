@@ -7,3 +7,4 @@ pub mod Prices
 pub mod Shared
 pub mod Promises
 pub mod Steps
+pub mod Texts

@@ -1,4 +1,7 @@
 // What the calls of a sheet answer.
+ghost use Rattle.std.specs.Prelude.{Some};
+ghost use Rattle.sheet.specs.Texts.{entry_text, costs_text};
+
 use std::fmt;
 
 // The stored figure of a node, and the byte of its mark.
@@ -9,6 +12,8 @@ pub struct Entry {
 }
 
 impl fmt::Display for Entry {
+    ghost output = { λ e. Some (entry_text e) };
+
     fn fmt<W: fmt::Write>(&self, f: &mut fmt::Formatter<W>) -> fmt::Result {
         let Entry { figure, mark } = self;
         write!(f, "figure {figure} mark {mark}")
@@ -23,6 +28,8 @@ pub struct Costs {
 }
 
 impl fmt::Display for Costs {
+    ghost output = { λ c. Some (costs_text c) };
+
     fn fmt<W: fmt::Write>(&self, f: &mut fmt::Formatter<W>) -> fmt::Result {
         let Costs { call, put } = self;
         write!(f, "call {call} put {put}")
