@@ -1,4 +1,4 @@
-// The calls of a sheet as values, so that a table can list them.
+// The calls of a sheet as values, so that a table can list them: each names a public call of the sheet, which is run so.
 use game::terms::Kind;
 use std::fmt;
 

@@ -32,6 +32,7 @@ pub fn struck(rt: &HostRuntime, answer: Result<Struck, SheetFault>) -> io::Resul
 
 // The line of a released price, without its newline.
 fn price(rt: &HostRuntime, released: &Released) -> io::Result<()> {
+    // `print` writes into what it is lent
     let mut line = [0; 64];
     match released.print(&mut line) {
         Ok(n) => rt

@@ -30,6 +30,7 @@ pub fn struck(rt: &HostRuntime, answer: Result<Struck, SheetFault>) -> io::Resul
 }
 
 fn price(rt: &HostRuntime, released: &Released) -> io::Result<()> {
+    // `print` writes into what it is lent
     let mut line = [0; 64];
     match released.print(&mut line) {
         Ok(n) => {

@@ -40,7 +40,8 @@ impl fmt::Display for Place {
     }
 }
 
-// A ground on which a layer refuses a call, as a host is told of it.
+// A ground on which a layer refuses a call, as a host is told of it. The number goes with a place, so neither is a
+// conversion of the fault.
 pub trait Ground {
     ghost number_of: { Self → ℕ };
 

@@ -48,7 +48,7 @@ impl<'a> Filling<'a> {
         Ok(usize::from(step) + 1)
     }
 
-    // A list, where the map has it: how many entries, then each.
+    // A list, where the map has it (whose bit comes along, as above): how many entries, then each.
     pub(crate) fn list<const N: usize, L: Listed<N>>(
         &mut self,
         list: L,

@@ -50,7 +50,7 @@ pub const FIRST: [(&str, Opening); 15] = [
     ("table", Opening::Whole(Form::Sheet(SheetForm::Table))),
 ];
 
-// The second words behind `lattice`, `clash` and `cancel`.
+// The second words behind `lattice`, `clash` and `cancel`: tables, as `TryFrom` between types of others is not ours to write.
 pub const LATTICES: [(&str, LatticeKind); 3] = [
     ("binomial", LatticeKind::Binomial),
     ("trinomial", LatticeKind::Trinomial),

@@ -15,6 +15,7 @@ use lattice::Lattice;
 use record::RecordFault;
 use sheet::{Sheet, SheetFault};
 
+// `?` asks for both: a run hears the faults of two layers.
 impl From<SheetFault> for Fault {
     ghost from_gives = { λ f r. r ≡ fault.Sheet f };
 
@@ -31,7 +32,9 @@ impl From<RecordFault> for Fault {
     }
 }
 
-// What the users of a sheet lend it: the rows, and an output of which so many bytes were given to saves.
+// What the users of a sheet lend it: the rows, and an output of which so many bytes were given to saves. The sheet itself
+// stays outside: a generic struct that holds it would tell its caller nothing of the rows. That the references stay the
+// lent ones (`same_values` and the like) is a relation of before and after, which no invariant says.
 #[derive(Drop)]
 pub(crate) struct Lent<'a> {
     pub(crate) values: &'a mut [u32],

@@ -4,7 +4,7 @@ ghost use Rattle.sheet.specs.Texts.{entry_text, costs_text};
 
 use std::fmt;
 
-// The stored figure of a node, and the byte of its mark.
+// The stored figure of a node, and the byte of its mark: the row is the host's, and may hold a byte that no mark has.
 #[derive(Clone, Copy, PartialEq, Eq)]
 pub struct Entry {
     pub figure: u32,

@@ -40,6 +40,7 @@ fn over_limit(row: &[u32]) -> bool
     row.iter().any(|x| *x > 650_000_000)
 }
 
+// A step, in the loops below and in `rows`, is no index: it is what the lattice is asked for.
 impl<L: Lattice, K: ClashRule> Valuation<'_, L, K> {
     // Works the `n` steps below the first worked one. A step with a figure above 650,000,000 is refused.
     pub(crate) fn work_back(

@@ -52,6 +52,7 @@ loop-above-preserved c =
     let read = read_at (placed at.After-map_err) (line_of c.loop-above.«open» c.in-Some.line.now) c.read_line.ensures was in
     (search of_calls, tt, pushed_line c.loop-above.yielded _ (line_none c.loop-above.invariant.2 (turn at.After-read_line (road at.After-next)) read c.in_default.is))
 
+-- this goal has no name but one of the toolchain's own
 pub loop-above-preserved-in-Continue-branch-2 : goal.loop-above-preserved-in-Continue-branch-2
 loop-above-preserved-in-Continue-branch-2 c =
     let at = goal.at.loop-above-preserved-in-Continue-branch-2 c in
