@@ -8,14 +8,11 @@ use script::Command;
 use sheet::all_nodes;
 use std::io;
 
-// The rates of the lattice that stands before any is named.
-static FLAT: [u32; 1] = [0];
-
-// A sheet stands open from the start, on the lattice of one step and rate 0, under put prevails; the reader of
-// scripts asks for an `open` before any call of it.
+// A sheet stands open from the start, on the lattice of a refused table (one step, rate 0), under put prevails; the reader
+// of scripts asks for an `open` before any call of it.
 pub fn run(rt: &HostRuntime, commands: &[Command]) -> io::Result<()> {
     let heap = rt.alloc();
-    let mut lattice = Tree::new(Kind::Binomial, 1, &FLAT);
+    let mut lattice = Tree::new(Kind::Binomial, 1, &[]);
     let mut clash = AnyClash::PutPrevails;
     let mut desk = Desk::open(heap, lattice, clash)?;
     for command in commands {

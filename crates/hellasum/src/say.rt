@@ -1,4 +1,4 @@
-// Answers as the program prints them.
+// Answers as the program prints them. The program bonds has functions of the same shape: it names no layer and ends no line.
 use rates::fault::Ground;
 use sheet::{Released, SheetFault, Struck};
 use std::fmt::Display;

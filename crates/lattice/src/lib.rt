@@ -3,6 +3,7 @@
 
 ghost use Rattle.std.specs.Prelude.{◌≡◌, ℕ, map, length};
 ghost use Rattle.std.specs.List.{range_with_len};
+ghost use Rattle.rates.specs.Formulas.{fitting};
 ghost use Rattle.rates.specs.Model.{Model, Lawful};
 
 mod checks;
@@ -21,6 +22,16 @@ pub trait Lattice {
     // The nodes of step `t`; 0 past the last step.
     fn nodes(&self, t: usize) -> usize
         ensures { result ≡ (model self.now).count t };
+
+    // Whether step, node, spread and row fit: where they do not, the figure is 0.
+    fn fits(&self, t: usize, j: usize, spread: u32, row: &[u32]) -> bool
+        ensures { result ≡ fitting (model self.now).steps (model self.now).count t j spread row.now }
+    {
+        t < self.steps()
+            && j < self.nodes(t)
+            && spread <= 200_000
+            && row.len() == self.nodes(t + 1)
+    }
 
     // The figure of node `j` of step `t` at a spread, from a row for the next step.
     fn roll(&self, t: usize, j: usize, spread: u32, row: &[u32]) -> u32

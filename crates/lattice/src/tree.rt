@@ -82,11 +82,7 @@ impl Lattice for Tree<'_> {
     }
 
     fn roll(&self, t: usize, j: usize, spread: u32, row: &[u32]) -> u32 {
-        if t >= self.last
-            || j >= width(&self.kind, t)
-            || spread > 200_000
-            || row.len() != width(&self.kind, t + 1)
-        {
+        if !self.fits(t, j, spread, row) {
             return 0;
         }
         let rate = self.rates[before(&self.kind, t) + j];

@@ -9,6 +9,7 @@ use rates::fault::Ground;
 use sheet::{Sheet, SheetFault, all_nodes};
 use split::Split;
 use states::TwoStates;
+use std::fmt::Display;
 use std::io;
 
 // A maker's sheet, with the rows that it is worked in.
@@ -49,10 +50,7 @@ impl Bond {
 
     fn read(&self, rt: &HostRuntime, t: usize, j: usize) -> io::Result<()> {
         print!(rt; "read {t} {j}            ")?;
-        match self.sheet.read(t, j, &self.values, &self.marks) {
-            Ok(node) => println!(rt; "{node}"),
-            Err(fault) => refused(rt, fault),
-        }
+        answer(rt, "", self.sheet.read(t, j, &self.values, &self.marks))
     }
 
     // Each node of each step, and one past the last.
@@ -71,16 +69,22 @@ impl Bond {
     }
 }
 
-fn refused(rt: &HostRuntime, fault: SheetFault) -> io::Result<()> {
-    println!(rt; "refused {} {}", fault.number(), fault.place().at)
+// An answer behind its word, or the refusal.
+fn answer<T: Display + Drop, F: Ground + Drop>(
+    rt: &HostRuntime,
+    word: &str,
+    answer: Result<T, F>,
+) -> io::Result<()> {
+    match answer {
+        Ok(value) => println!(rt; "{word}{value}"),
+        Err(fault) => println!(rt; "refused {} {}", fault.number(), fault.place().at),
+    }
 }
 
-fn say(rt: &HostRuntime, done: &str, answer: Result<usize, SheetFault>) -> io::Result<()> {
+// What was done, and the first worked step after it.
+fn say(rt: &HostRuntime, done: &str, first: Result<usize, SheetFault>) -> io::Result<()> {
     print!(rt; "{done:<20}")?;
-    match answer {
-        Ok(w) => println!(rt; "w {w}"),
-        Err(fault) => refused(rt, fault),
-    }
+    answer(rt, "w ", first)
 }
 
 fn work(rt: &HostRuntime, lattice: TwoStates) -> io::Result<()> {

@@ -6,6 +6,7 @@ ghost use Rattle.maker.specs.States.{wide as wide_of, shared as shared_of, rate_
 
 use lattice::Lattice;
 use rates::row::entry;
+use rates::table::check_steps;
 
 #[derive(Clone, Copy)]
 pub struct TwoStates {
@@ -39,9 +40,7 @@ impl TwoStates {
     pub fn new(steps: usize, low: u32, high: u32) -> Option<TwoStates>
         ensures { MatchOption result (makeable steps ≡ false) (λ x. (makeable steps ≡ true) × (two_states x.low x.high x.last ≡ two_states low high steps)) }
     {
-        if steps < 1 || steps > 64 {
-            return None;
-        }
+        check_steps(steps).ok()?;
         Some(TwoStates {
             last: steps,
             low,
@@ -73,7 +72,7 @@ impl Lattice for TwoStates {
     }
 
     fn roll(&self, t: usize, j: usize, spread: u32, row: &[u32]) -> u32 {
-        if t >= self.last || j >= wide(t) || spread > 200_000 || row.len() != wide(t + 1) {
+        if !self.fits(t, j, spread, row) {
             return 0;
         }
         let growth = 1_000_000 + u64::from(self.rate(j)) + u64::from(spread);

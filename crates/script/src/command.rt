@@ -7,7 +7,7 @@ use rates::kind::Kind;
 use rates::weights::Triple;
 use sheet::Edit;
 
-// A call of the open sheet.
+// A call of the open sheet, as a text can make it: one of a run lends bytes and names an output.
 #[derive(Clone, Copy, Debug)]
 pub enum SheetCall {
     Edit(Edit),

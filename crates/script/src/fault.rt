@@ -48,6 +48,7 @@ impl From<Expected> for LineError {
     }
 }
 
+// The library says want of memory in two types.
 impl<F> From<AllocError> for Unread<F> {
     ghost from_gives = { λ _ r. r ≡ unread.Memory };
 

@@ -6,6 +6,7 @@ ghost use Rattle.script.specs.Forms.{name_length, sheet_count, count_of, takes};
 use game::clash::AnyClash;
 use game::terms::Kind;
 
+// The kinds by name alone: `Kind<()>` would say that there are weights.
 #[derive(Clone, Copy, Debug, PartialEq)]
 pub enum LatticeKind {
     Binomial,

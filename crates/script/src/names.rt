@@ -50,7 +50,7 @@ pub const FIRST: [(&str, Opening); 15] = [
     ("table", Opening::Whole(Form::Sheet(SheetForm::Table))),
 ];
 
-// The second words behind `lattice`, `clash` and `cancel`: tables, as `TryFrom` between types of others is not ours to write.
+// The second words behind `lattice`, `clash` and `cancel`: tables, which one search reads.
 pub const LATTICES: [(&str, LatticeKind); 3] = [
     ("binomial", LatticeKind::Binomial),
     ("trinomial", LatticeKind::Trinomial),

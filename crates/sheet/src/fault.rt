@@ -30,6 +30,7 @@ pub enum SheetFault {
     Wanted,
 }
 
+// A number is told with a place: see `Ground`.
 impl Ground for SheetFault {
     ghost number_of = { sheet_number };
 

@@ -2,7 +2,8 @@
 ghost use Rattle.std.specs.Prelude.{◌≡◌, ◌+◌, ◌≤◌, length};
 ghost use Rattle.sheet.specs.Prices.{laid};
 
-// Writes a part from place `at` on, and answers the place after it. No cursor goes along, as steps are laid downwards.
+// Writes a part from place `at` on, and answers the place after it. No cursor goes along: the steps of a sheet are laid
+// downwards, and only the price line upwards.
 pub(crate) fn lay<T: Copy>(out: &mut [T], at: usize, part: &[T]) -> usize
     requires { at + length part.now ≤ length out.old }
     ensures place { result ≡ at + length part.now }

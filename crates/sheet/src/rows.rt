@@ -39,6 +39,7 @@ impl<L: Lattice, K: ClashRule> Valuation<'_, L, K> {
     {
         let mut row = [right.price; 129];
         let last = t + usize::from(right.notice);
+        // by steps, which the lattice is asked for
         for u in (t..last).rev() {
             self.roll_back(u, &mut row);
         }

@@ -46,6 +46,7 @@ impl<L: Lattice, K: ClashRule> Valuation<'_, L, K> {
         ensures figures { (j : ℕ) → j < n → slice_index step.new.figures j ≡ figure_of (K.ClashRule.settled self.now.clash.now) (paid puts.now j) (paid calls.now j) (slice_index step.old.figures j) }
         ensures marks { (j : ℕ) → j < n → slice_index step.new.marks j ≡ mark_number (mark_of (paid puts.now j) (paid calls.now j) (slice_index step.old.figures j)) }
     {
+        // one of the two by index: of a zip of both the proof would know nothing that is written
         let Step { figures, marks } = step;
         for (j, figure) in figures[0..n].iter_mut().enumerate() {
             let node = node::decide(self.clash, amount_at(puts, j), amount_at(calls, j), *figure);

@@ -90,7 +90,7 @@ impl<L: Lattice, K: ClashRule> Sheet<L, K> {
         self.stored(t, j, values, marks)
     }
 
-    // The entries of a node, without what they are worth.
+    // The entries of a node, without what they are worth: that is shown once in `read`, and not on each way out.
     fn stored(&self, t: usize, j: usize, values: &[u32], marks: &[u8]) -> Result<Entry, SheetFault>
         ensures { told sheet_refusal result ≡ answer (read_fault (L.Lattice.model self.now.lattice) self.now.state values.now marks.now t j) (entry (L.Lattice.model self.now.lattice) values.now marks.now t j) }
     {
