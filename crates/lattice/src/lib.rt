@@ -27,10 +27,7 @@ pub trait Lattice {
     fn fits(&self, t: usize, j: usize, spread: u32, row: &[u32]) -> bool
         ensures { result ≡ fitting (model self.now).steps (model self.now).count t j spread row.now }
     {
-        t < self.steps()
-            && j < self.nodes(t)
-            && spread <= 200_000
-            && row.len() == self.nodes(t + 1)
+        t < self.steps() && j < self.nodes(t) && spread <= 200_000 && row.len() == self.nodes(t + 1)
     }
 
     // The figure of node `j` of step `t` at a spread, from a row for the next step.
