@@ -44,19 +44,24 @@ module _ (n : ℕ) (src : List ℕ) where
     pub steps : f.draft.steps ≡ n
     pub left : decode n src ≡ stage f.draft.state f.reader.at
 
+  -- a field that was read
+  pub record Passed (next : Stage) (r : Result (Unit {0}) RecordFault) (f : Filling) : Type 0 where
+    pub on : r ≡ Ok tt → Reached next f
+    pub off : {e : RecordFault} → r ≡ Err e → decode n src ≡ Err e
+
   module _ {X : Type 0} (field : Lens X) (read : ℕ → X → Bool → List ℕ → ℕ → Result (X × ℕ) RecordFault) (bit : Bool) (next : Stage) {a : Filling} (at : Reached (λ s p. then (read n (field.of s) bit src p) (λ x. next (field.with s x.0) x.1)) a) where
     meant : {found : Bool} {q : Result (X × ℕ) RecordFault} → found ≡ bit → q ≡ read a.draft.steps (field.of a.draft.state) found a.reader.src.now a.reader.at → decode n src ≡ then q (λ x. next (field.with a.draft.state x.0) x.1)
     meant same got = at.left ∙ ap (λ q. then q (λ x. next (field.with a.draft.state x.0) x.1)) (sym (got ∙ (λ i. read (at.steps i) (field.of a.draft.state) (same i) (at.kept i) a.reader.at)))
 
-    pub reached : {b : Filling} {found : Bool} {r : Result (Unit {0}) RecordFault} → found ≡ bit → Filled field a b → yields r (field.of b.draft.state, b.reader.at) ≡ read a.draft.steps (field.of a.draft.state) found a.reader.src.now a.reader.at → r ≡ Ok tt → Reached next b
-    reached {b} same filled got z = record {
-      kept = filled.kept ∙ at.kept;
-      steps = filled.steps ∙ at.steps;
-      left = meant same (sym (went_on z refl) ∙ got) ∙ ap (λ s. next s b.reader.at) (sym filled.leaves);
+    pub passed : {b : Filling} {found : Bool} {r : Result (Unit {0}) RecordFault} → found ≡ bit → Filled field a b → yields r (field.of b.draft.state, b.reader.at) ≡ read a.draft.steps (field.of a.draft.state) found a.reader.src.now a.reader.at → Passed next r b
+    passed {b} same filled got = record {
+      on = λ z. record {
+        kept = filled.kept ∙ at.kept;
+        steps = filled.steps ∙ at.steps;
+        left = meant same (sym (went_on z refl) ∙ got) ∙ ap (λ s. next s b.reader.at) (sym filled.leaves);
+      };
+      off = λ z. meant same (sym (stopped (field.of b.draft.state, b.reader.at) z refl) ∙ got);
     }
-
-    pub failed : (y : X × ℕ) {found : Bool} {r : Result (Unit {0}) RecordFault} {e : RecordFault} → found ≡ bit → yields r y ≡ read a.draft.steps (field.of a.draft.state) found a.reader.src.now a.reader.at → r ≡ Err e → decode n src ≡ Err e
-    failed y same got z = meant same (sym (stopped y z refl) ∙ got)
 
   pub ended : {f : Filling} {r : Result Draft RecordFault} → Reached from_end f → r ≡ then (end_at f.reader.src.now f.reader.at) (λ _. Ok f.draft) → then {Y = Terms × ℕ} r (λ d. Ok (d.state.terms, d.state.spread)) ≡ decode n src
   ended {f} at e =
