@@ -1,5 +1,5 @@
 -- A record that is read field by field: what is left to read, from the state that was reached.
-use Rattle.std.proofs.Common.{◌≡◌, ℕ, ◌/◌, ◌%◌, Bool, eqb, List, Ok, Err, Result, sym, refl, ap, ◌∙◌, arith}
+use Rattle.std.proofs.Common.{◌≡◌, ℕ, ◌/◌, ◌%◌, Bool, eqb, List, Ok, Err, Result, sym, refl, ap, ◌∙◌}
 use Rattle.game.specs.declared.terms.Terms.{Terms}
 use Rattle.game.specs.declared.terms.Kind.TheVariants.{Call, Put}
 use Rattle.sheet.specs.declared.state.State.{State}
@@ -74,22 +74,5 @@ module _ (n : ℕ) (src : List ℕ) where
       way (Ok u) = refl
       way (Err d) = refl
 
--- the bit of each field: b is what the bits are then, of the map m
-module _ (m : ℕ) {b0 : ℕ} (first : b0 ≡ m % 32) where
-  pub bit0 : odd b0 ≡ odd m
-  bit0 = let e : b0 % 2 ≡ m % 2 = omega arith in ap (λ x. eqb x 1) e
-
-  module _ {b1 : ℕ} (e1 : b1 ≡ b0 / 2) where
-    pub bit1 : odd b1 ≡ odd (m / 2)
-    bit1 = let e : b1 % 2 ≡ (m / 2) % 2 = omega arith in ap (λ x. eqb x 1) e
-
-    module _ {b2 : ℕ} (e2 : b2 ≡ b1 / 2) where
-      pub bit2 : odd b2 ≡ odd (m / 4)
-      bit2 = let e : b2 % 2 ≡ (m / 4) % 2 = omega arith in ap (λ x. eqb x 1) e
-
-      module _ {b3 : ℕ} (e3 : b3 ≡ b2 / 2) where
-        pub bit3 : odd b3 ≡ odd (m / 8)
-        bit3 = let e : b3 % 2 ≡ (m / 8) % 2 = omega arith in ap (λ x. eqb x 1) e
-
-        pub bit4 : {b4 : ℕ} → b4 ≡ b3 / 2 → odd b4 ≡ odd (m / 16)
-        bit4 {b4} e4 = let e : b4 % 2 ≡ (m / 16) % 2 = omega arith in ap (λ x. eqb x 1) e
+pub same_bit : (a b : ℕ) → a % 2 ≡ b % 2 → odd a ≡ odd b
+same_bit a b e = ap (λ x. eqb x 1) e
