@@ -52,7 +52,10 @@ module _ {E A : Type 0} (k : ℕ) (says : ℕ → ℕ → List ℕ → Result (�
   entry_made e a = rw (← e, a)
 
 -- the entries of a list, one after another
-module _ {E A : Type 0} (k : ℕ) (says : ℕ → ℕ → List ℕ → Result (ℕ × E) RecordFault) (cell : E → A) {src src0 : List ℕ} (same : src ≡ src0) (count i : ℕ) (h : i < count) (floor at : ℕ) (table : List A) where
+module _ {E A : Type 0} (k : ℕ) (says_of : ℕ → ℕ → ℕ → List ℕ → Result (ℕ × E) RecordFault) (cell : E → A) {n n0 : ℕ} (steps : n ≡ n0) {src src0 : List ℕ} (same : src ≡ src0) (count i : ℕ) (h : i < count) (floor at : ℕ) (table : List A) where
+  abbrev says : ℕ → ℕ → List ℕ → Result (ℕ × E) RecordFault
+  says = says_of n0
+
   abbrev on : ℕ × (List A × ℕ) → Result (List A × ℕ) RecordFault
   on x = entries_from k says cell src0 (count - (i + 1)) x.0 x.1.0 x.1.1
 
@@ -64,8 +67,8 @@ module _ {E A : Type 0} (k : ℕ) (says : ℕ → ℕ → List ℕ → Result (�
       regroup (Ok e) = refl
       regroup (Err d) = refl
 
-  pub entry_on : {next : ℕ} {after : List A} {last : ℕ} → Ok (next, (after, last)) ≡ entry_at k says cell src floor table at → entries_from k says cell src0 (count - (i + 1)) next after last ≡ entries_from k says cell src0 (count - i) floor table at
-  entry_on e = let f = e ∙ ap (λ l. entry_at k says cell l floor table at) same in rw (entry_step, ← f)
+  pub entry_on : {next : ℕ} {after : List A} {last : ℕ} → Ok (next, (after, last)) ≡ entry_at k (says_of n) cell src floor table at → entries_from k says cell src0 (count - (i + 1)) next after last ≡ entries_from k says cell src0 (count - i) floor table at
+  entry_on e = let f = e ∙ (λ i. entry_at k (says_of (steps i)) cell (same i) floor table at) in rw (entry_step, ← f)
 
-  pub entry_off : {e : RecordFault} → Err e ≡ entry_at k says cell src floor table at → entries_from k says cell src0 (count - i) floor table at ≡ Err e
-  entry_off e = let f = e ∙ ap (λ l. entry_at k says cell l floor table at) same in rw (entry_step, ← f)
+  pub entry_off : {e : RecordFault} → Err e ≡ entry_at k (says_of n) cell src floor table at → entries_from k says cell src0 (count - i) floor table at ≡ Err e
+  entry_off e = let f = e ∙ (λ i. entry_at k (says_of (steps i)) cell (same i) floor table at) in rw (entry_step, ← f)

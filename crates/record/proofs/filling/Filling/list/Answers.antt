@@ -1,5 +1,5 @@
 use Rattle.std.proofs.Common.{◌≡◌, ◌-◌, ◌==◌, refl, sym, ap, ◌∙◌, rules, arith}
-use Rattle.record.specs.Decode.{checked, entry_at, entries_from, list_at}
+use Rattle.record.specs.Decode.{checked, entries_from, list_at}
 use Rattle.record.proofs.Cutting.{exit, entry_on, entry_off}
 use Rattle.record.proofs.Accepting.{filled_more}
 use Rattle.record.proofs.filling.Filling.list.Goals as goal
@@ -27,22 +27,16 @@ loop-init g c =
 pub returns-in_err-floor-clause-got : goal.returns-in_err-floor-clause-got
 returns-in_err-floor-clause-got g c =
     let t = g.L.Listed in
-    let n = c.args.self.now.draft.steps in
-    let l = c.loop in
-    let i = l.invariant in
-    let got = c.in_err-floor.ensures.got ∙ ap (λ n. entry_at g.row.N (λ floor. checked (t.fault n) (t.form floor)) t.cell l.self.reader.src.now l.floor ((t.table c.args.list).of l.self.draft.state) l.self.reader.at) i.filled.steps in
-    exit _ _ c.from_residual-in_err-floor.ensures.1 (sym i.rest ∙ entry_off _ (λ floor. checked (t.fault n) (t.form floor)) t.cell i.filled.kept _ _ c.loop-test.true _ _ _ got)
+    let i = c.loop.invariant in
+    exit _ _ c.from_residual-in_err-floor.ensures.1 (sym i.rest ∙ entry_off _ (λ n floor. checked (t.fault n) (t.form floor)) t.cell i.filled.steps i.filled.kept _ _ c.loop-test.true _ _ _ c.in_err-floor.ensures.got)
 
 pub loop-preserved : goal.loop-preserved
 loop-preserved g c =
     let t = g.L.Listed in
-    let n = c.args.self.now.draft.steps in
-    let l = c.loop in
-    let i = l.invariant in
-    let got = c.in_ok-floor.ensures.got ∙ ap (λ n. entry_at g.row.N (λ floor. checked (t.fault n) (t.form floor)) t.cell l.self.reader.src.now l.floor ((t.table c.args.list).of l.self.draft.state) l.self.reader.at) i.filled.steps in
+    let i = c.loop.invariant in
     record {
       filled = filled_more i.filled c.entry.ensures.filled;
-      rest = entry_on _ (λ floor. checked (t.fault n) (t.form floor)) t.cell i.filled.kept _ _ c.loop-test.true _ _ _ got ∙ i.rest;
+      rest = entry_on _ (λ n floor. checked (t.fault n) (t.form floor)) t.cell i.filled.steps i.filled.kept _ _ c.loop-test.true _ _ _ c.in_ok-floor.ensures.got ∙ i.rest;
     }
 
 pub returns-clause-got : goal.returns-clause-got
