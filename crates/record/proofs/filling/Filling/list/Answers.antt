@@ -1,4 +1,4 @@
-use Rattle.std.proofs.Common.{◌≡◌, ◌-◌, ◌==◌, refl, sym, ap, ◌∙◌, rules, arith}
+use Rattle.std.proofs.Common.{◌≡◌, ◌-◌, ◌==◌, refl, sym, ◌∙◌, rules, arith}
 use Rattle.record.specs.Decode.{checked, entries_from, list_at}
 use Rattle.record.proofs.Cutting.{exit, entry_on, entry_off}
 use Rattle.record.proofs.Accepting.{filled_more}
