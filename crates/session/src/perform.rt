@@ -34,7 +34,7 @@ impl From<RecordFault> for Fault {
 
 // What the users of a sheet lend it: the rows, and an output of which so many bytes were given to saves. The sheet itself
 // stays outside: a generic struct that holds it would tell its caller nothing of the rows. That the references stay the
-// lent ones (`same_values` and the like) is a relation of before and after, which no invariant says.
+// lent ones (`Kept`) is a relation of before and after, which no invariant says.
 #[derive(Drop)]
 pub(crate) struct Lent<'a> {
     pub(crate) values: &'a mut [u32],
@@ -45,7 +45,7 @@ pub(crate) struct Lent<'a> {
 }
 
 impl Lent<'_> {
-    ghost use Rattle.session.specs.Held.{held};
+    ghost use Rattle.session.specs.Held.{held, Kept};
 
     // Saves into the next bytes of the output, as many as the save names or as are left.
     fn save<L: Lattice, K: ClashRule>(
@@ -76,9 +76,7 @@ impl Lent<'_> {
         ensures keeps { Standing (L.Lattice.model sheet.old.lattice) (K.ClashRule.settled sheet.old.clash) sheet.old.state self.old.values.now self.old.marks.now → Standing (L.Lattice.model sheet.old.lattice) (K.ClashRule.settled sheet.old.clash) sheet.new.state self.new.values.now self.new.marks.now }
         ensures admits { Admitted (L.Lattice.model sheet.old.lattice).steps sheet.old.state.terms sheet.old.state.spread → Admitted (L.Lattice.model sheet.old.lattice).steps sheet.new.state.terms sheet.new.state.spread }
         ensures same { (sheet.new.lattice ≡ sheet.old.lattice) × (sheet.new.clash ≡ sheet.old.clash) }
-        ensures same_values { self.new.values.ghost_name ≡ self.old.values.ghost_name }
-        ensures same_marks { self.new.marks.ghost_name ≡ self.old.marks.ghost_name }
-        ensures same_output { self.new.output.ghost_name ≡ self.old.output.ghost_name }
+        ensures kept { Kept self.old self.new }
     {
         let values = &mut *self.values;
         let marks = &mut *self.marks;
@@ -105,9 +103,7 @@ impl Lent<'_> {
         requires admitted { Admitted (L.Lattice.model sheet.old.lattice).steps sheet.old.state.terms sheet.old.state.spread }
         ensures law { BestPlayAfterAnyRun (L.Lattice.model sheet.old.lattice) (K.ClashRule.settled sheet.old.clash) (take (length answers.old) calls.now) (held sheet.old.state self.old) answers.old answers.new sheet.new.state self.new.values.now self.new.marks.now self.new.output.now }
         ensures same { (sheet.new.lattice ≡ sheet.old.lattice) × (sheet.new.clash ≡ sheet.old.clash) }
-        ensures same_values { self.new.values.ghost_name ≡ self.old.values.ghost_name }
-        ensures same_marks { self.new.marks.ghost_name ≡ self.old.marks.ghost_name }
-        ensures same_output { self.new.output.ghost_name ≡ self.old.output.ghost_name }
+        ensures kept { Kept self.old self.new }
     {
         let count = answers.len().min(calls.len());
         // no zip with answers.iter_mut(): the proof would know none of the answers that it wrote

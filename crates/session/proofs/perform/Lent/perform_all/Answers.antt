@@ -21,9 +21,7 @@ loop-i-init g c =
       said = refl;
       rest = refl;
       same = (refl, refl);
-      same_values = refl;
-      same_marks = refl;
-      same_output = refl;
+      kept = record { values = refl; marks = refl; output = refl };
       stands = λ k l. let none : 0 ≡ k = omega arith in subst (λ n. Stands m σ (run m σ (take n calls) z)) none c.requires.stands;
       accepted = c.requires.admitted;
     }
@@ -54,9 +52,7 @@ loop-i-preserved g c =
       said = heard_more m σ calls i _ z given c.perform.result inside roomy h.said said;
       rest = drop-set-lt (i + 1) given i _ (omega arith) ∙ sym (drop-drop 1 i given) ∙ ap (drop 1) h.rest ∙ drop-drop 1 i c.args.answers.now;
       same = (e.same.0 ∙ h.same.0, e.same.1 ∙ h.same.1);
-      same_values = e.same_values ∙ h.same_values;
-      same_marks = e.same_marks ∙ h.same_marks;
-      same_output = e.same_output ∙ h.same_output;
+      kept = record { values = e.kept.values ∙ h.kept.values; marks = e.kept.marks ∙ h.kept.marks; output = e.kept.output ∙ h.kept.output };
       stands = λ k l. below_more (λ n. Stands m σ (run m σ (take n calls) z)) (i + 1) (λ n b. h.stands n (omega arith)) stands k (omega arith);
       accepted = accepted;
     }

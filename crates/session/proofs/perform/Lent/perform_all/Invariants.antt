@@ -1,6 +1,6 @@
 use Rattle.std.proofs.Common.{◌≡◌, ℕ, ◌≤◌, map, take, drop, Some}
 use Rattle.session.specs.Answers.{heard_in}
-use Rattle.session.specs.Held.{held}
+use Rattle.session.specs.Held.{held, Kept}
 use Rattle.session.specs.Runs.{Shared, run, answers}
 use Rattle.session.proofs.Running.{Stands, Accepted}
 use Rattle.session.proofs.perform.Lent.perform_all.Given as goal
@@ -18,9 +18,7 @@ invariant-loop-i g l =
       said : map heard_in (take l.i l.answers) ≡ map Some (answers m σ (take l.i l.call-items) z);
       rest : drop l.i l.answers ≡ drop l.i was.answers;
       same : (l.sheet.lattice ≡ was.sheet.lattice) × (l.sheet.clash ≡ was.sheet.clash);
-      same_values : l.self.values.ghost_name ≡ was.self.values.ghost_name;
-      same_marks : l.self.marks.ghost_name ≡ was.self.marks.ghost_name;
-      same_output : l.self.output.ghost_name ≡ was.self.output.ghost_name;
+      kept : Kept was.self l.self;
       stands : (k : ℕ) → k ≤ l.i → Stands m σ (after k);
       accepted : Accepted m σ (after l.i);
     }
