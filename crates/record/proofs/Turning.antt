@@ -53,7 +53,7 @@ climb {E} {A} held d Good (a ∷ xs) floor t h all = way (held a) refl (climb he
     way (Some x) z skip on = let P : ℕ → Type 0 = λ k. Good (k, x) in (h, subst P (add-zero t) (all 0 x z), on)
 
 -- a kind of list: its entries in a record, and its table
-pub record Listed (E A : Type 0) : Type 0 where
+pub record ListKind (E A : Type 0) : Type 0 where
   pub size : ℕ
   pub form : ℕ → ℕ → List ℕ → Result (ℕ × E) RecordFault
   pub fault : ℕ × E → Option SheetFault
@@ -70,7 +70,7 @@ pub record Listed (E A : Type 0) : Type 0 where
   pub full : (a : A) (e : E) → held a ≡ Some e → cell e ≡ a
   pub nothing : held blank ≡ None
 
-module _ {E A : Type 0} (l : Listed E A) (src : List ℕ) where
+module _ {E A : Type 0} (l : ListKind E A) (src : List ℕ) where
   abbrev Good : ℕ × E → Type 0
   Good e = (l.held (l.cell e.1) ≡ Some e.1) × (l.fault e ≡ None)
 
@@ -133,7 +133,7 @@ coupon_form_back floor place (s ∷ bs) e h l r =
     let P : ℕ × ℕ → Type 0 = λ x. (floor ≤ x.0) × (nonzero x.1 ≡ Some x.1) × (coupon_bytes x ≡ s ∷ bs) in
     subst P same (ltb-false s floor o.0, rw o.1, ap (λ l. s ∷ l) (word_says bs h.1 (omega arith)))
 
-abbrev pub coupons_listed : ℕ → Listed ℕ ℕ
+abbrev pub coupons_listed : ℕ → ListKind ℕ ℕ
 coupons_listed n = record {
   size = 5;
   form = coupon_form;
@@ -170,7 +170,7 @@ right_form_back floor place (s ∷ k ∷ bs) e h l r =
     let P : ℕ × Right → Type 0 = λ x. (floor ≤ x.0) × (Some x.1 ≡ Some x.1) × (right_bytes x ≡ s ∷ k ∷ bs) in
     subst P same (ltb-false s floor c.0, refl, ap (λ l. s ∷ k ∷ l) (word_says bs h.1.1 (omega arith)))
 
-abbrev pub rights_listed : ℕ → Listed Right (Option Right)
+abbrev pub rights_listed : ℕ → ListKind Right (Option Right)
 rights_listed n = record {
   size = 6;
   form = right_form;

@@ -5,7 +5,8 @@ ghost use Rattle.record.specs.Encode.{nonzero, coupon_bytes, right_bytes};
 
 use game::terms::Right;
 
-// A cell, whose entry has N bytes.
+// A cell, whose entry has N bytes. It says what is written of a table, and `Listed` what is read into one: two traits,
+// since a list of calls and one of puts differ in the second only.
 pub(crate) trait Cell<const N: usize> {
     type Entry: Copy;
 

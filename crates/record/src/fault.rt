@@ -24,6 +24,7 @@ impl Ground for RecordFault {
 
     ghost place_of = { record_place };
 
+    // A number is told with a place, so it is no conversion.
     fn number(&self) -> u32 {
         match self {
             RecordFault::Output(_) => 1,

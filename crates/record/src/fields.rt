@@ -2,7 +2,8 @@
 ghost use Rattle.std.specs.Prelude.{◌≡◌, ◌/◌, ◌%◌, count_ones};
 ghost use Rattle.record.specs.Decode.{odd};
 
-// The bits of the fields still to be read, the next one lowest, and how many of them stand.
+// The bits of the fields still to be read, the next one lowest, and how many of them stand: the count of ones, since the
+// rules say that so many fields follow.
 #[derive(Drop)]
 pub(crate) struct Fields {
     bits: u8,
