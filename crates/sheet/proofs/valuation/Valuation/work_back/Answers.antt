@@ -1,11 +1,30 @@
-use Rattle.std.proofs.Common.{◌≡◌, ℕ, suc, ◌+◌, ◌-◌, ◌<◌, ◌≤◌, true, false, length, get_or, take, sym, refl, ap, ◌∙◌, arith, rules}
+use Rattle.std.proofs.Common.{◌≡◌, ℕ, suc, ◌+◌, ◌-◌, ◌<◌, ◌≤◌, true, false, List, length, get_or, take, sym, refl, ap, ◌∙◌, arith, rules}
 use Rattle.std.proofs.lemmas.List.{length-take-le}
-use Rattle.game.specs.Stored.{offset, rewritten}
+use Rattle.rates.specs.Model.{Lawful, Model}
+use Rattle.game.specs.Stored.{all_nodes, offset, rewritten}
 use Rattle.game.specs.Working.{back_figure, back_mark, over}
 use Rattle.game.proofs.Rows.{count_few, offset_more, offset_top, rewritten_none, rewritten_more}
 use Rattle.game.proofs.Backward.{back_small, none_over}
+use Rattle.sheet.specs.Prices.{laid}
 use Rattle.sheet.proofs.Stepping.{Holds, stepped_figure_is, stepped_mark_is, found_holds, front_is}
 use Rattle.sheet.proofs.valuation.Valuation.work_back.Goals as goal
+
+-- A row of the step u - 1, laid before those of the steps from u on.
+module _ (m : Model) (u n to : ℕ) (below : 0 < u) (place : to ≡ offset m u) (count : n ≡ m.count (u - 1)) where
+  from_is : to - n ≡ offset m (u - 1)
+  from_is = let up : u ≡ u - 1 + 1 = omega arith in omega (arith, offset_more m (u - 1), ap (offset m) up)
+
+  module _ (laws : Lawful m) (front row : List ℕ) (wide : length front ≡ 129) (room : all_nodes m ≤ length row) where
+    fits : to - n + length (take (n - 0) front) ≤ length row
+    fits = omega (arith, from_is, count_few laws (u - 1), length-take-le (n - 0) front (omega (arith, count_few laws (u - 1))), offset_top laws (u - 1))
+
+    laid_more : (F : ℕ → ℕ → ℕ) (w : ℕ) (held : List ℕ) → u ≤ w → held ≡ rewritten m row F u (w - u) → ((j : ℕ) → j < m.count (u - 1) → get_or front j 0 ≡ F (u - 1) j) → laid held (to - n) (take (n - 0) front) ≡ rewritten m row F (u - 1) (w - (u - 1))
+    laid_more F w held late is nodes =
+        let up : u ≡ u - 1 + 1 = omega arith in
+        let more : suc (w - u) ≡ w - (u - 1) = omega arith in
+        let long : offset m (u - 1 + 1) ≤ length row = omega (arith, offset_top laws (u - 1), offset_more m (u - 1)) in
+        rewritten_more m F row held (take (n - 0) front) (u - 1) (w - u) (to - n) long from_is (is ∙ ap (λ t. rewritten m row F t (w - u)) up) (front_is m F (u - 1) (n - 0) front (omega arith) (omega (arith, count_few laws (u - 1))) nodes)
+        ∙ ap (rewritten m row F (u - 1)) more
 
 pub loop-t-init : goal.loop-t-init
 loop-t-init g c =
@@ -53,22 +72,10 @@ overflow_sub-from g c =
     omega (arith, offset_more m (c.loop-t.t - 1), ap (offset m) up)
 
 pub lay-requires : goal.lay-requires
-lay-requires g c =
-    let m = g.L.Lattice.model c.args.self.now.lattice.now in
-    let laws = g.L.Lattice.lawful c.args.self.now.lattice.now in
-    let u = c.loop-t.t in
-    let n = c.nodes-count.result - 0 in
-    let up : u ≡ u - 1 + 1 = omega arith in
-    omega (arith, length-take-le n c.work_step.new.step.figures (omega (arith, count_few laws (u - 1))), offset_top laws (u - 1), offset_more m (u - 1), ap (offset m) up)
+lay-requires g c = fits _ c.loop-t.t c.nodes-count.result c.loop-t.to (omega arith) c.loop-t.invariant.1 (omega arith) (g.L.Lattice.lawful c.args.self.now.lattice.now) c.work_step.new.step.figures c.loop-t.values (omega arith) (omega arith)
 
 pub lay-requires-in-loop-t : goal.lay-requires-in-loop-t
-lay-requires-in-loop-t g c =
-    let m = g.L.Lattice.model c.args.self.now.lattice.now in
-    let laws = g.L.Lattice.lawful c.args.self.now.lattice.now in
-    let u = c.loop-t.t in
-    let n = c.nodes-count.result - 0 in
-    let up : u ≡ u - 1 + 1 = omega arith in
-    omega (arith, length-take-le n c.work_step.new.step.marks (omega (arith, count_few laws (u - 1))), offset_top laws (u - 1), offset_more m (u - 1), ap (offset m) up)
+lay-requires-in-loop-t g c = fits _ c.loop-t.t c.nodes-count.result c.loop-t.to (omega arith) c.loop-t.invariant.1 (omega arith) (g.L.Lattice.lawful c.args.self.now.lattice.now) c.work_step.new.step.marks c.loop-t.marks (omega arith) (omega arith)
 
 pub loop-t-preserved : goal.loop-t-preserved
 loop-t-preserved g c =
@@ -81,29 +88,22 @@ loop-t-preserved g c =
     let v = c.args.values.now in
     let k = c.args.marks.now in
     let u = c.loop-t.t in
-    let n = c.nodes-count.result - 0 in
     let inv = c.loop-t.invariant in
     let low : u - 1 < w = omega arith in
     let up : u ≡ u - 1 + 1 = omega arith in
-    let more : suc (w - u) ≡ w - (u - 1) = omega arith in
-    let from : c.loop-t.to - c.nodes-count.result ≡ offset m (u - 1) = omega (arith, offset_more m (u - 1), ap (offset m) up) in
-    let long : offset m (u - 1 + 1) ≤ length v = omega (arith, offset_top laws (u - 1), offset_more m (u - 1)) in
-    let wide : offset m (u - 1 + 1) ≤ length k = omega (arith, offset_top laws (u - 1), offset_more m (u - 1)) in
+    let n = c.nodes-count.result in
+    let count : n ≡ m.count (u - 1) = omega arith in
     let F = back_figure m σ b s w v in
     let G = back_mark m σ b s w v in
     let figures : Holds m σ b s w v (u - 1) c.work_step.new.step.figures = λ j h. c.work_step.ensures.figures j h ∙ stepped_figure_is m σ b s w v (u - 1) u c.loop-t.step.figures low up inv.4 j in
     let marks : (j : ℕ) → j < m.count (u - 1) → get_or c.work_step.new.step.marks j 0 ≡ G (u - 1) j = λ j h. c.work_step.ensures.marks j h ∙ stepped_mark_is m σ b s w v (u - 1) u c.loop-t.step.figures low up inv.4 j in (
       omega arith,
-      from,
+      from_is m u n c.loop-t.to (omega arith) inv.1 count,
       search rules,
       search rules,
       figures,
-      c.lay.ensures.laid
-          ∙ rewritten_more m F v c.loop-t.values (take n c.work_step.new.step.figures) (u - 1) (w - u) (c.loop-t.to - c.nodes-count.result) long from (inv.5 ∙ ap (λ t. rewritten m v F t (w - u)) up) (front_is m F (u - 1) n c.work_step.new.step.figures (omega arith) (omega (arith, count_few laws (u - 1))) figures)
-          ∙ ap (rewritten m v F (u - 1)) more,
-      c.lay-in-loop-t.ensures.laid
-          ∙ rewritten_more m G k c.loop-t.marks (take n c.work_step.new.step.marks) (u - 1) (w - u) (c.loop-t.to - c.nodes-count.result) wide from (inv.6 ∙ ap (λ t. rewritten m k G t (w - u)) up) (front_is m G (u - 1) n c.work_step.new.step.marks (omega arith) (omega (arith, count_few laws (u - 1))) marks)
-          ∙ ap (rewritten m k G (u - 1)) more,
+      c.lay.ensures.laid ∙ laid_more m u n c.loop-t.to (omega arith) inv.1 count laws c.work_step.new.step.figures v (omega arith) (omega arith) F w c.loop-t.values (omega arith) inv.5 figures,
+      c.lay-in-loop-t.ensures.laid ∙ laid_more m u n c.loop-t.to (omega arith) inv.1 count laws c.work_step.new.step.marks k (omega arith) (omega arith) G w c.loop-t.marks (omega arith) inv.6 marks,
     )
 
 pub returns : goal.returns
