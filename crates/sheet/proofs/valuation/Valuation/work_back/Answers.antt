@@ -108,17 +108,6 @@ loop-t-preserved g c =
 
 pub returns : goal.returns
 returns g c =
-    let m = g.L.Lattice.model c.args.self.now.lattice.now in
-    let σ = g.K.ClashRule.settled c.args.self.now.clash.now in
-    let b = c.args.self.now.terms.now in
-    let s = c.args.self.now.spread in
-    let w = c.args.first in
-    let v = c.args.values.now in
-    let k = c.args.marks.now in
-    let at : c.loop-t.t ≡ w - c.args.n = omega (arith, c.loop-t.invariant.0) in
-    let few : w - c.loop-t.t ≡ c.args.n = omega (arith, c.loop-t.invariant.0) in
-    record {
-      done = refl;
-      values = c.loop-t.invariant.5 ∙ ap (rewritten m v (back_figure m σ b s w v) c.loop-t.t) few ∙ ap (λ t. rewritten m v (back_figure m σ b s w v) t c.args.n) at;
-      marks = c.loop-t.invariant.6 ∙ ap (rewritten m k (back_mark m σ b s w v) c.loop-t.t) few ∙ ap (λ t. rewritten m k (back_mark m σ b s w v) t c.args.n) at;
-    }
+    let at : c.loop-t.t ≡ c.args.first - c.args.n = omega (arith, c.loop-t.invariant.0) in
+    let few : c.args.first - c.loop-t.t ≡ c.args.n = omega (arith, c.loop-t.invariant.0) in
+    record { done = refl; values = rw (few, at) at c.loop-t.invariant.5; marks = rw (few, at) at c.loop-t.invariant.6 }
