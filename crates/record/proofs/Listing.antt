@@ -1,11 +1,10 @@
 -- The parts of a record that is made of bytes p and then a tail, and the lists in it.
-use Rattle.std.proofs.Common.{◌≡◌, ℕ, zero, suc, ◌+◌, ◌*◌, ◌/◌, ◌%◌, ◌<◌, ◌≤◌, Bool, true, false, not, eqb, List, [], ◌∷◌, ◌++◌, length, take, drop, set, Ok, Err, Result, sym, refl, ap, ◌∙◌, ⊎_elim, add-zero, arith}
-use Rattle.std.proofs.lemmas.List.{append_assoc, length-drop, length-append, length-take-le, take_at, drop_at, drop-drop, take-append-drop}
-use Rattle.std.proofs.lemmas.List.Elements.{All-from_recursion, recursion_from_All, All-take, All-drop}
+use Rattle.std.proofs.Common.{◌≡◌, ℕ, zero, suc, ◌+◌, ◌<◌, ◌≤◌, Bool, true, false, not, eqb, List, [], ◌∷◌, ◌++◌, length, get_or, take, drop, set, Ok, Err, Result, sym, refl, ap, ◌∙◌, ⊎_elim, add-zero, arith}
+use Rattle.std.proofs.lemmas.List.{append_assoc, length-drop, length-append, length-take, length-take-le, get_or-take, get_or-drop, get_or_past, take_at, drop_at, drop-drop, take-append-drop}
 use Rattle.std.proofs.lemmas.Bool.{cases_lt, ne_eqb}
 use Rattle.std.proofs.lemmas.Bool.Decides.{nat_tests}
-use Rattle.std.proofs.lemmas.Nat.{shr-shr}
-use Rattle.std.specs.List.{flat_map, AllByRecursion}
+use Rattle.std.proofs.lemmas.Nat.{be_bytes_4, from_be_bytes-to_be_bytes_4}
+use Rattle.std.specs.List.{flat_map}
 use Rattle.record.specs.declared.fault.RecordFault.{RecordFault}
 use Rattle.record.specs.Decode.{part_at, reads, then, entries_from, list_at, count_form, word_at, word}
 use Rattle.record.specs.Encode.{list_bytes, some, bytes4, word_bytes}
@@ -57,25 +56,20 @@ module _ {X : Type 0} (k : ℕ) (says : ℕ → List ℕ → Result X RecordFaul
 
 -- four bytes and their number
 pub bytes4_word : (v : ℕ) → v < 4294967296 → word 0 (bytes4 v) ≡ v
-bytes4_word v h =
-    let e2 : v / 65536 ≡ v / 256 / 256 = sym (shr-shr v 8 8) in
-    let e3 : v / 16777216 ≡ v / 256 / 256 / 256 = sym (shr-shr v 16 8) ∙ ap (λ x. x / 256) e2 in
-    rw (e2, e3) (omega arith)
-
-pub word_bytes4 : (a b c d : ℕ) → a < 256 → b < 256 → c < 256 → d < 256 → bytes4 (a * 16777216 + b * 65536 + c * 256 + d) ≡ a ∷ b ∷ c ∷ d ∷ []
-word_bytes4 a b c d ha hb hc hd =
-    let v : ℕ = a * 16777216 + b * 65536 + c * 256 + d in
-    let pa : v / 16777216 % 256 ≡ a = omega arith in
-    let pb : v / 65536 % 256 ≡ b = omega arith in
-    let pc : v / 256 % 256 ≡ c = omega arith in
-    let pd : v % 256 ≡ d = omega arith in
-    (λ i. pa i ∷ pb i ∷ pc i ∷ pd i ∷ [])
+bytes4_word v h = omega (arith, from_be_bytes-to_be_bytes_4 v h)
 
 abbrev pub Bytes : List ℕ → Type 0
-Bytes = AllByRecursion (λ b. b < 256)
+Bytes bs = (i : ℕ) → get_or bs i 0 < 256
+
+pub word_says : (bs : List ℕ) → Bytes bs → length bs ≡ 4 → bytes4 (word 0 bs) ≡ bs
+word_says bs h l = be_bytes_4 bs (word 0 bs) l h (omega arith)
 
 pub bytes_part : (k at : ℕ) (bs : List ℕ) → Bytes bs → Bytes (take k (drop at bs))
-bytes_part k at bs h = let P : ℕ → Type 0 = λ b. b < 256 in recursion_from_All P _ (All-take P k (drop at bs) (All-drop P at bs (All-from_recursion P bs h)))
+bytes_part k at bs h i =
+    ⊎_elim
+    (λ l. omega (arith, get_or-take k (drop at bs) i 0 l, get_or-drop at bs i 0, h (at + i)))
+    (λ l. omega (arith, get_or_past (take k (drop at bs)) i 0 (omega (arith, length-take k (drop at bs)))))
+    (cases_lt i k)
 
 -- a field of four bytes
 module _ (says : ℕ → List ℕ → Result ℕ RecordFault) (default : ℕ) (src : List ℕ) where

@@ -1,6 +1,5 @@
 -- What load and save promise, from what their parts do.
-use Rattle.std.proofs.Common.{◌≡◌, ℕ, ◌+◌, ◌<◌, ◌≤◌, true, false, cond, ltb, List, ◌++◌, length, get_or, drop, Some, None, Ok, Err, Result, sym, ap, ◌∙◌, zero-add}
-use Rattle.std.proofs.lemmas.List.Elements.{recursion_from_All, All-from_get_or}
+use Rattle.std.proofs.Common.{◌≡◌, ℕ, ◌+◌, ◌<◌, ◌≤◌, true, false, cond, ltb, List, ◌++◌, length, drop, Some, None, Ok, Err, Result, sym, ap, ◌∙◌, zero-add}
 use Rattle.std.proofs.lemmas.Bool.{lt-ltb, le-ltb, eq-eqb}
 use Rattle.rates.specs.Model.{Model}
 use Rattle.rates.specs.Refusals.{accepted, told}
@@ -50,10 +49,6 @@ module _ (s : State) (out : List ℕ) (tables : (length s.terms.coupons ≡ 65) 
         bytes = is ∙ ap (λ k. bytes ++ drop k out) (zero-add (length bytes)) ∙ ap (λ b. cond b out (bytes ++ drop (length bytes) out)) (sym room);
         loads_back = loads_back;
       }
-
--- the numbers of a list of bytes
-pub bytes_from : (xs : List ℕ) → ((i : ℕ) → get_or xs i 0 < 256) → Bytes xs
-bytes_from xs h = let P : ℕ → Type 0 = λ b. b < 256 in recursion_from_All P xs (All-from_get_or P xs 0 (λ i _. h i))
 
 -- a draft of as many steps, filled from a record and put in force
 module _ (m : Model) (σ : ℕ → ℕ → ℕ) (src : List ℕ) (before s : State) where

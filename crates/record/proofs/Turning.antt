@@ -8,10 +8,10 @@ use Rattle.sheet.specs.Edits.{coupon_fault, right_fault}
 use Rattle.record.specs.declared.fault.RecordFault.{RecordFault}
 use Rattle.record.specs.declared.fault.RecordFault.TheVariants.{Form}
 use Rattle.record.specs.Decode.{word, yields, under, checked, coupon_form, right_form, granted, list_at}
-use Rattle.record.specs.Encode.{bytes4, coupon_bytes, right_bytes, entered, entries_of, nonzero, some, list_bytes}
+use Rattle.record.specs.Encode.{coupon_bytes, right_bytes, entered, entries_of, nonzero, some, list_bytes}
 use Rattle.record.specs.Enters.{coupon_low, right_low}
 use Rattle.record.proofs.Tables.{filled, Climbs, filled_entries, entries_from_blank}
-use Rattle.record.proofs.Listing.{then_ok, bytes4_word, word_bytes4, Bytes, list_read, list_back}
+use Rattle.record.proofs.Listing.{then_ok, bytes4_word, word_says, Bytes, list_read, list_back}
 
 pub cond_ok : {X : Type 0} (b : Bool) (d : RecordFault) (q : Result X RecordFault) (y : X) → cond b (Err d) q ≡ Ok y → (b ≡ false) × (q ≡ Ok y)
 cond_ok true d q y e = absurd cc
@@ -27,14 +27,6 @@ checked_ok {X} fault form place bs x e =
     way : (y : X) (o : Option SheetFault) → fault y ≡ o → yields (under place (tested o)) y ≡ Ok x → (fault y ≡ None) × (y ≡ x)
     way y None z e = (z, cc)
     way y (Some f) z e = absurd cc
-
-pub word_says : (bs : List ℕ) → Bytes bs → length bs ≡ 4 → bytes4 (word 0 bs) ≡ bs
-word_says (a ∷ b ∷ c ∷ d ∷ []) h l = word_bytes4 a b c d h.0 h.1.0 h.1.1.0 h.1.1.1.0
-word_says [] h l = absurd (omega arith)
-word_says (a ∷ []) h l = absurd (omega arith)
-word_says (a ∷ b ∷ []) h l = absurd (omega arith)
-word_says (a ∷ b ∷ c ∷ []) h l = absurd (omega arith)
-word_says (a ∷ b ∷ c ∷ d ∷ e ∷ bs) h l = absurd (omega arith)
 
 -- the entries of a table climb
 climb : {E A : Type 0} (held : A → Option E) (d : A) (Good : ℕ × E → Type 0) (xs : List A) (floor t : ℕ) → floor ≤ t → ((i : ℕ) (e : E) → held (get_or xs i d) ≡ Some e → Good (t + i, e)) → Climbs Good floor (entries_of held t xs)
@@ -131,7 +123,7 @@ coupon_form_back floor place (s ∷ bs) e h l r =
     let same : (s, v) ≡ e = cc c.1 in
     let o = or_parts (ltb s floor) (eqb v 0) c.0 in
     let P : ℕ × ℕ → Type 0 = λ x. (floor ≤ x.0) × (nonzero x.1 ≡ Some x.1) × (coupon_bytes x ≡ s ∷ bs) in
-    subst P same (ltb-false s floor o.0, rw o.1, ap (λ l. s ∷ l) (word_says bs h.1 (omega arith)))
+    subst P same (ltb-false s floor o.0, rw o.1, ap (λ l. s ∷ l) (word_says bs (λ i. h (suc i)) (omega arith)))
 
 abbrev pub coupons_listed : ℕ → ListKind ℕ ℕ
 coupons_listed n = record {
@@ -168,7 +160,7 @@ right_form_back floor place (s ∷ k ∷ bs) e h l r =
     let c = cond_ok (ltb s floor) (Form place) (Ok (s, granted k v)) e r in
     let same : (s, granted k v) ≡ e = cc c.1 in
     let P : ℕ × Right → Type 0 = λ x. (floor ≤ x.0) × (Some x.1 ≡ Some x.1) × (right_bytes x ≡ s ∷ k ∷ bs) in
-    subst P same (ltb-false s floor c.0, refl, ap (λ l. s ∷ k ∷ l) (word_says bs h.1.1 (omega arith)))
+    subst P same (ltb-false s floor c.0, refl, ap (λ l. s ∷ k ∷ l) (word_says bs (λ i. h (suc (suc i))) (omega arith)))
 
 abbrev pub rights_listed : ℕ → ListKind Right (Option Right)
 rights_listed n = record {

@@ -15,8 +15,8 @@ use Rattle.record.specs.declared.fault.RecordFault.TheVariants.{Form, Extra}
 use Rattle.record.specs.Decode.{word, then, checked, map_form, word_form, redemption_of, spread_of, part_at, redemption_at, spread_at, coupons_at, rights_at, end_at, odd, terms_of, decode}
 use Rattle.record.specs.Encode.{bytes4, coupon_bytes, right_bytes, nonzero, coupons_in, rights_in, some, list_bytes, word_bytes, bit, map_byte, redeems, spreads, encode}
 use Rattle.record.specs.Enters.{coupon_low, right_low}
-use Rattle.record.proofs.Listing.{then_ok, past, part_of, part_back, bytes4_word, Bytes, word_read, word_back}
-use Rattle.record.proofs.Turning.{cond_ok, checked_ok, word_says, nonzero_is, coupons_listed, rights_listed, table_read, table_back}
+use Rattle.record.proofs.Listing.{then_ok, past, part_of, part_back, bytes4_word, word_says, Bytes, word_read, word_back}
+use Rattle.record.proofs.Turning.{cond_ok, checked_ok, nonzero_is, coupons_listed, rights_listed, table_read, table_back}
 
 -- a field of four bytes
 module _ (fault : ℕ → Option SheetFault) (absent place v : ℕ) where

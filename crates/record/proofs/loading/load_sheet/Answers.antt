@@ -1,6 +1,6 @@
 use Rattle.std.proofs.Common.{sym, ap, ◌∙◌, arith}
 use Rattle.record.specs.Decode.{decode}
-use Rattle.record.proofs.Promised.{bytes_from, loaded_whole}
+use Rattle.record.proofs.Promised.{loaded_whole}
 use Rattle.record.proofs.loading.load_sheet.Goals as goal
 
 pub returns-clause-loaded : goal.returns-clause-loaded
@@ -9,6 +9,5 @@ returns-clause-loaded g c =
     let m = g.L.Lattice.model s.lattice in
     let draft = c.in_ok-draft.draft in
     let steps = c.in_ok-draft.ensures.steps ∙ c.draft.ensures.steps in
-    let bytes = bytes_from c.args.bytes.now (λ i. omega (arith, c.type_inv.bytes i)) in
     let dec = ap (λ n. decode n c.args.bytes.now) (sym c.draft.ensures.steps) ∙ sym c.in_ok-draft.ensures.filled in
-    loaded_whole m (g.K.ClashRule.settled s.clash) c.args.bytes.now s.state draft.state c.adopt.result (g.L.Lattice.lawful s.lattice).few_steps bytes steps draft.unworked dec c.adopt.ensures.adopted c.at_place.ensures
+    loaded_whole m (g.K.ClashRule.settled s.clash) c.args.bytes.now s.state draft.state c.adopt.result (g.L.Lattice.lawful s.lattice).few_steps (λ i. omega (arith, c.type_inv.bytes i)) steps draft.unworked dec c.adopt.ensures.adopted c.at_place.ensures
