@@ -41,9 +41,9 @@ bit_low : (b : Bool) → bit b ≤ 1
 bit_low true = omega arith
 bit_low false = omega arith
 
-bit_odd : (b : Bool) (m : ℕ) → odd (bit b + 2 * m) ≡ b
-bit_odd true m = let e : (1 + 2 * m) % 2 ≡ 1 = omega arith in rw e
-bit_odd false m = let e : (0 + 2 * m) % 2 ≡ 0 = omega arith in rw e
+bit_odd : (b : Bool) (n rest : ℕ) → n ≡ bit b + 2 * rest → odd n ≡ b
+bit_odd true n rest e = let z : n % 2 ≡ 1 = omega arith in rw z
+bit_odd false n rest e = let z : n % 2 ≡ 0 = omega arith in rw z
 
 odd_bit : (m : ℕ) → bit (odd m) ≡ m % 2
 odd_bit m = grind (arith, nat_tests)
@@ -60,21 +60,14 @@ map_back m h =
 map_low : (b0 b1 b2 b3 b4 : Bool) → map_byte b0 b1 b2 b3 b4 < 32
 map_low b0 b1 b2 b3 b4 = omega (arith, bit_low b0, bit_low b1, bit_low b2, bit_low b3, bit_low b4)
 
-module _ (b0 b1 b2 b3 b4 : Bool) where
-  at0 : odd (map_byte b0 b1 b2 b3 b4) ≡ b0
-  at0 = bit_odd b0 (bit b1 + 2 * (bit b2 + 2 * (bit b3 + 2 * bit b4)))
-
-  at1 : odd (map_byte b0 b1 b2 b3 b4 / 2) ≡ b1
-  at1 = let e : map_byte b0 b1 b2 b3 b4 / 2 ≡ bit b1 + 2 * (bit b2 + 2 * (bit b3 + 2 * bit b4)) = omega (arith, bit_low b0) in ap odd e ∙ bit_odd b1 (bit b2 + 2 * (bit b3 + 2 * bit b4))
-
-  at2 : odd (map_byte b0 b1 b2 b3 b4 / 4) ≡ b2
-  at2 = let e : map_byte b0 b1 b2 b3 b4 / 4 ≡ bit b2 + 2 * (bit b3 + 2 * bit b4) = omega (arith, bit_low b0, bit_low b1) in ap odd e ∙ bit_odd b2 (bit b3 + 2 * bit b4)
-
-  at3 : odd (map_byte b0 b1 b2 b3 b4 / 8) ≡ b3
-  at3 = let e : map_byte b0 b1 b2 b3 b4 / 8 ≡ bit b3 + 2 * bit b4 = omega (arith, bit_low b0, bit_low b1, bit_low b2) in ap odd e ∙ bit_odd b3 (bit b4)
-
-  at4 : odd (map_byte b0 b1 b2 b3 b4 / 16) ≡ b4
-  at4 = let e : map_byte b0 b1 b2 b3 b4 / 16 ≡ bit b4 + 2 * 0 = omega (arith, bit_low b0, bit_low b1, bit_low b2, bit_low b3) in ap odd e ∙ bit_odd b4 0
+bits_are : (b0 b1 b2 b3 b4 : Bool) (m : ℕ) → m ≡ map_byte b0 b1 b2 b3 b4 → (odd m ≡ b0) × (odd (m / 2) ≡ b1) × (odd (m / 4) ≡ b2) × (odd (m / 8) ≡ b3) × (odd (m / 16) ≡ b4)
+bits_are b0 b1 b2 b3 b4 m e = (
+  bit_odd b0 m (bit b1 + 2 * (bit b2 + 2 * (bit b3 + 2 * bit b4))) e,
+  bit_odd b1 (m / 2) (bit b2 + 2 * (bit b3 + 2 * bit b4)) (omega (arith, bit_low b0)),
+  bit_odd b2 (m / 4) (bit b3 + 2 * bit b4) (omega (arith, bit_low b0, bit_low b1)),
+  bit_odd b3 (m / 8) (bit b4) (omega (arith, bit_low b0, bit_low b1, bit_low b2)),
+  bit_odd b4 (m / 16) 0 (omega (arith, bit_low b0, bit_low b1, bit_low b2, bit_low b3)),
+)
 
 -- the fields read one after another
 decoded : (n : ℕ) (src : List ℕ) {m a1 r a2 s a3 : ℕ} {c : List ℕ} {a4 : ℕ} {k : List (Option Right)} {a5 : ℕ} {p : List (Option Right)} {a6 : ℕ} → part_at 1 map_form src 0 ≡ Ok (m, a1) → redemption_at 1000000 (odd m) src a1 ≡ Ok (r, a2) → spread_at 0 (odd (m / 2)) src a2 ≡ Ok (s, a3) → coupons_at n (replicate 65 0) (odd (m / 4)) src a3 ≡ Ok (c, a4) → rights_at n (replicate 64 None) (odd (m / 8)) src a4 ≡ Ok (k, a5) → rights_at n (replicate 64 None) (odd (m / 16)) src a5 ≡ Ok (p, a6) → end_at src a6 ≡ Ok tt → decode n src ≡ Ok (terms_of r c k p, s)
@@ -102,6 +95,7 @@ module _ (n : ℕ) (b : Terms) (s : ℕ) (ok : Admitted n b s) (coupons : length
       let b3 : Bool = some (rights_in b.calls) in
       let b4 : Bool = some (rights_in b.puts) in
       let m : ℕ = map_byte b0 b1 b2 b3 b4 in
+      let bits = bits_are b0 b1 b2 b3 b4 m refl in
       let a2 : ℕ = 1 + length (word_bytes b0 b.redemption) in
       let a3 : ℕ = a2 + length (word_bytes b1 s) in
       let a4 : ℕ = a3 + length (list_bytes coupon_bytes (coupons_in b.coupons)) in
@@ -114,11 +108,11 @@ module _ (n : ℕ) (b : Terms) (s : ℕ) (ok : Admitted n b s) (coupons : length
       let d6 = past src (list_bytes right_bytes (rights_in b.puts)) [] _ d5 in
       decoded n src
       (part_of 1 map_form src 0 (m ∷ []) _ m (omega arith) d0 refl (rw (lt-leb 32 m (map_low b0 b1 b2 b3 b4))))
-      (ap (λ x. redemption_at 1000000 x src 1) (at0 b0 b1 b2 b3 b4) ∙ word_read redemption_of 1000000 src b0 b.redemption 1 _ d1 (λ z. eqb-true _ _ (not-false _ z)) (λ z. word_from (amount_fault 0) 1000000 1 b.redemption (amount_low _ ok.redemption) ok.redemption (not-true _ z)))
-      (ap (λ x. spread_at 0 x src a2) (at1 b0 b1 b2 b3 b4) ∙ word_read spread_of 0 src b1 s _ _ d2 (λ z. eqb-true _ _ (not-false _ z)) (λ z. word_from spread_fault 0 _ s (spread_low _ ok.spread) ok.spread (not-true _ z)))
-      (ap (λ x. coupons_at n (replicate 65 0) x src a3) (at2 b0 b1 b2 b3 b4) ∙ table_read (coupons_listed n) src b.coupons _ _ coupons coupon_stands d3)
-      (ap (λ x. rights_at n (replicate 64 None) x src a4) (at3 b0 b1 b2 b3 b4) ∙ table_read (rights_listed n) src b.calls _ _ calls (λ t e h. ap (right_entry_fault n t) (sym h) ∙ ok.rights Call t) d4)
-      (ap (λ x. rights_at n (replicate 64 None) x src a5) (at4 b0 b1 b2 b3 b4) ∙ table_read (rights_listed n) src b.puts _ _ puts (λ t e h. ap (right_entry_fault n t) (sym h) ∙ ok.rights Put t) d5)
+      (ap (λ x. redemption_at 1000000 x src 1) bits.0 ∙ word_read redemption_of 1000000 src b0 b.redemption 1 _ d1 (λ z. eqb-true _ _ (not-false _ z)) (λ z. word_from (amount_fault 0) 1000000 1 b.redemption (amount_low _ ok.redemption) ok.redemption (not-true _ z)))
+      (ap (λ x. spread_at 0 x src a2) bits.1 ∙ word_read spread_of 0 src b1 s _ _ d2 (λ z. eqb-true _ _ (not-false _ z)) (λ z. word_from spread_fault 0 _ s (spread_low _ ok.spread) ok.spread (not-true _ z)))
+      (ap (λ x. coupons_at n (replicate 65 0) x src a3) bits.2 ∙ table_read (coupons_listed n) src b.coupons _ _ coupons coupon_stands d3)
+      (ap (λ x. rights_at n (replicate 64 None) x src a4) bits.3 ∙ table_read (rights_listed n) src b.calls _ _ calls (λ t e h. ap (right_entry_fault n t) (sym h) ∙ ok.rights Call t) d4)
+      (ap (λ x. rights_at n (replicate 64 None) x src a5) bits.4 ∙ table_read (rights_listed n) src b.puts _ _ puts (λ t e h. ap (right_entry_fault n t) (sym h) ∙ ok.rights Put t) d5)
       (at_end src _ d6)
 
 -- the record of accepted terms means these terms
