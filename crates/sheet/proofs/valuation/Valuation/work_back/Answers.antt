@@ -34,15 +34,14 @@ loop-t-init g c =
     let s = c.args.self.now.spread in
     let w = c.args.first in
     let v = c.args.values.now in
-    let k = c.args.marks.now in
-    let z : 0 ≡ w - w = omega arith in (
+    let z : w - w ≡ 0 = omega arith in (
       omega arith,
       c.offset-to.ensures,
       search rules,
       refl,
       found_holds m σ b s w v (g.L.Lattice.lawful c.args.self.now.lattice.now) c.load.result c.load.ensures,
-      rewritten_none m (back_figure m σ b s w v) v w ∙ ap (λ n. rewritten m v (back_figure m σ b s w v) w n) z,
-      rewritten_none m (back_mark m σ b s w v) k w ∙ ap (λ n. rewritten m k (back_mark m σ b s w v) w n) z,
+      rw z (rewritten_none m (back_figure m σ b s w v) v w),
+      rw z (rewritten_none m (back_mark m σ b s w v) c.args.marks.now w),
     )
 
 -- no figure is above the limit
