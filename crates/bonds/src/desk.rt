@@ -36,6 +36,7 @@ pub struct Seen {
     marks: [u8; 6],
 }
 
+// A sheet with its rows: the programs have one each, over rows of their own kind.
 #[derive(Drop)]
 pub struct Desk<'a> {
     sheet: Sheet<Tree<'a>, AnyClash>,

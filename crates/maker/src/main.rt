@@ -12,7 +12,7 @@ use states::TwoStates;
 use std::fmt::Display;
 use std::io;
 
-// A maker's sheet, with the rows that it is worked in.
+// A maker's sheet, with the rows that it is worked in: the programs have one each, over rows of their own kind.
 #[derive(Drop)]
 struct Bond {
     lattice: TwoStates,
@@ -69,7 +69,7 @@ impl Bond {
     }
 }
 
-// An answer behind its word, or the refusal.
+// An answer behind its word, or the refusal: as in the other programs, which differ in the layer and the line's end.
 fn answer<T: Display + Drop, F: Ground + Drop>(
     rt: &HostRuntime,
     word: &str,

@@ -6,8 +6,8 @@ ghost use Rattle.record.specs.Decode.{reads, part_at, byte_form};
 
 use crate::fault::RecordFault;
 
-// A part of a record: the bytes that it occupies, and the place of the first. A slice and not an array: its reader takes
-// the named bytes and leaves the rest, which a later version of the record may make longer.
+// A part of a record: the bytes that it occupies, and the place of the first. A slice and not an array: an
+// entry is taken apart by a pattern of its named bytes and the rest, as the decisions have it.
 #[derive(Clone, Copy)]
 pub(crate) struct Part<'a> {
     pub(crate) bytes: &'a [u8],

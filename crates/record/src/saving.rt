@@ -98,6 +98,7 @@ pub fn save<L: Lattice, K: ClashRule>(
     save_sheet(sheet, out)
 }
 
+// Two private ones under `save`: that of a state alone serves any number of steps.
 fn save_sheet<L: Lattice, K: ClashRule>(
     sheet: &Sheet<L, K>,
     out: &mut [u8],

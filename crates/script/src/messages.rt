@@ -1,35 +1,41 @@
 // What was expected, in words.
 use crate::fault::{Expected, ScriptFault};
 use crate::forms::{Form, LatticeKind, SheetForm};
-use game::clash::AnyClash;
-use game::terms::Kind;
 use std::fmt;
 
 // How a call of the form is written.
 impl fmt::Display for Form {
     fn fmt<W: fmt::Write>(&self, f: &mut fmt::Formatter<W>) -> fmt::Result {
-        f.write_str(match self {
-            Form::Lattice(LatticeKind::Binomial) => "lattice binomial STEPS RATE..",
-            Form::Lattice(LatticeKind::Trinomial) => "lattice trinomial STEPS P Q U RATE..",
-            Form::Lattice(LatticeKind::Worst) => "lattice worst STEPS P Q U P Q U RATE..",
-            Form::Clash(AnyClash::PutPrevails) => "clash put",
-            Form::Clash(AnyClash::CallPrevails) => "clash call",
-            Form::Clash(AnyClash::Halfway) => "clash halfway",
-            Form::Open => "open",
-            Form::Sheet(SheetForm::Coupon) => "coupon STEP AMOUNT",
-            Form::Sheet(SheetForm::Enter(Kind::Call)) => "call STEP PRICE NOTICE",
-            Form::Sheet(SheetForm::Enter(Kind::Put)) => "put STEP PRICE NOTICE",
-            Form::Sheet(SheetForm::Cancel(Kind::Call)) => "cancel call STEP",
-            Form::Sheet(SheetForm::Cancel(Kind::Put)) => "cancel put STEP",
-            Form::Sheet(SheetForm::Redeem) => "redeem AMOUNT",
-            Form::Sheet(SheetForm::Spread) => "spread SPREAD",
-            Form::Sheet(SheetForm::Back) => "back STEPS",
-            Form::Sheet(SheetForm::Read) => "read STEP NODE",
-            Form::Sheet(SheetForm::Cost) => "cost",
-            Form::Sheet(SheetForm::Fit) => "fit PRICE",
-            Form::Sheet(SheetForm::Strike) => "strike",
-            Form::Sheet(SheetForm::Table) => "table",
-        })
+        match self {
+            Form::Lattice(LatticeKind::Binomial) => f.write_str("lattice binomial STEPS RATE.."),
+            Form::Lattice(LatticeKind::Trinomial) => {
+                f.write_str("lattice trinomial STEPS P Q U RATE..")
+            }
+            Form::Lattice(LatticeKind::Worst) => {
+                f.write_str("lattice worst STEPS P Q U P Q U RATE..")
+            }
+            Form::Clash(rule) => write!(f, "clash {rule}"),
+            Form::Open => f.write_str("open"),
+            Form::Sheet(form) => write!(f, "{form}"),
+        }
+    }
+}
+
+impl fmt::Display for SheetForm {
+    fn fmt<W: fmt::Write>(&self, f: &mut fmt::Formatter<W>) -> fmt::Result {
+        match self {
+            SheetForm::Coupon => f.write_str("coupon STEP AMOUNT"),
+            SheetForm::Enter(side) => write!(f, "{side} STEP PRICE NOTICE"),
+            SheetForm::Cancel(side) => write!(f, "cancel {side} STEP"),
+            SheetForm::Redeem => f.write_str("redeem AMOUNT"),
+            SheetForm::Spread => f.write_str("spread SPREAD"),
+            SheetForm::Back => f.write_str("back STEPS"),
+            SheetForm::Read => f.write_str("read STEP NODE"),
+            SheetForm::Cost => f.write_str("cost"),
+            SheetForm::Fit => f.write_str("fit PRICE"),
+            SheetForm::Strike => f.write_str("strike"),
+            SheetForm::Table => f.write_str("table"),
+        }
     }
 }
 

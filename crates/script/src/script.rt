@@ -42,7 +42,8 @@ fn read_lines(heap: Global, text: &[u8], mut open: bool) -> Result<Vec<Command>,
     Ok(commands)
 }
 
-// The commands of a script, or the fault of its first line that is no call: one line, as the calls of a sheet are.
+// The commands of a script, or the fault of its first line that is no call: one line over a private function, so that a wrong
+// one is refused here, not in a proof.
 pub fn read_script(heap: Global, text: &[u8]) -> Result<Vec<Command>, ReadError>
     ensures { Reads (script_of text.now) result }
 {

@@ -101,7 +101,7 @@ fn set_right(terms: &mut Terms, kind: Kind, t: usize, right: Option<Right>)
     }
 }
 
-// `last` is at most 64 by the lattice's law: a type that says so would be made for each of these calls alone.
+// `last` is at most 64 by the lattice's law: a type that says so would be made for each of these calls, and `opened`, alone.
 impl State {
     // Makes an edit, on a lattice of `last` steps, unless its tests refuse it.
     pub(crate) fn amend(&mut self, last: usize, edit: Edit) -> Result<(), SheetFault>

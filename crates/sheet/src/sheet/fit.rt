@@ -29,6 +29,7 @@ impl<L: Lattice, K: ClashRule> Sheet<L, K> {
             return Err(SheetFault::Wanted);
         }
         let spread = valuation.greatest_spread(want);
+        // what an edit of the spread leaves: `apply` would ask for its test, which the search has made
         let last = self.lattice.steps();
         self.state.spread = spread;
         self.state.first = self.state.first.max(last);
