@@ -6,3 +6,4 @@ pub mod Forms
 pub mod Names
 pub mod Numbers
 pub mod Script
+pub mod Texts

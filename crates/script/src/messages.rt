@@ -1,10 +1,15 @@
 // What was expected, in words.
+ghost use Rattle.std.specs.Prelude.{Some};
+ghost use Rattle.script.specs.Texts.{form_text, sheet_form_text};
+
 use crate::fault::{Expected, ScriptFault};
 use crate::forms::{Form, LatticeKind, SheetForm};
 use std::fmt;
 
 // How a call of the form is written.
 impl fmt::Display for Form {
+    ghost output = { λ f. Some (form_text f) };
+
     fn fmt<W: fmt::Write>(&self, f: &mut fmt::Formatter<W>) -> fmt::Result {
         match self {
             Form::Lattice(LatticeKind::Binomial) => f.write_str("lattice binomial STEPS RATE.."),
@@ -22,6 +27,8 @@ impl fmt::Display for Form {
 }
 
 impl fmt::Display for SheetForm {
+    ghost output = { λ f. Some (sheet_form_text f) };
+
     fn fmt<W: fmt::Write>(&self, f: &mut fmt::Formatter<W>) -> fmt::Result {
         match self {
             SheetForm::Coupon => f.write_str("coupon STEP AMOUNT"),
