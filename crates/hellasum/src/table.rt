@@ -5,14 +5,14 @@ use lattice::Lattice;
 use sheet::Entry;
 use std::io;
 
-// A mark row is the host's, so its byte may be no mark.
+// A mark row is the host's, so its byte may be no mark. The line is printed in one call, which is one write, so that no other
+// program's output comes between.
 fn line(rt: &HostRuntime, t: usize, j: usize, entry: Entry) -> io::Result<()> {
     let whole = entry.figure / 10_000;
     let rest = entry.figure % 10_000;
-    print!(rt; "{t:>4} {j:>5} {whole:>8}.{rest:04}  ")?;
     match Mark::try_from(entry.mark) {
-        Ok(mark) => println!(rt; "{mark}"),
-        Err(_) => rt.println("?"),
+        Ok(mark) => println!(rt; "{t:>4} {j:>5} {whole:>8}.{rest:04}  {mark}"),
+        Err(_) => println!(rt; "{t:>4} {j:>5} {whole:>8}.{rest:04}  ?"),
     }
 }
 
