@@ -1,4 +1,5 @@
-// What the kinds of lattice answer for one node.
+// What the kinds of lattice answer for one node. The entries that it leads to are lent as a slice whose length the compiler
+// knows, so that `entry` need not test their places when it runs.
 ghost use Rattle.std.specs.Prelude.{◌≡◌, ℕ, ◌+◌, ◌*◌, ◌<◌, ◌≤◌, length};
 ghost use Rattle.rates.specs.Formulas.{width, rounded, weighted, formula, entry_at};
 ghost use Rattle.rates.specs.Kinds.{plain};
@@ -14,7 +15,10 @@ pub(crate) fn answer(kind: &Kind<Weights>, rate: u32, spread: u32, j: usize, row
 {
     let d = 1_000_000 + u64::from(rate) + u64::from(spread);
     match kind {
-        Kind::Binomial => quotient((entry(row, j) + entry(row, j + 1)) * 1_000_000, 2 * d),
+        Kind::Binomial => {
+            let next = &row[j..j + 2];
+            quotient((entry(next, 0) + entry(next, 1)) * 1_000_000, 2 * d)
+        }
         Kind::Trinomial(w) => weighed(w, d, j, row),
         Kind::WorstCase(v, w) => weighed(v, d, j, row).min(weighed(w, d, j, row)),
     }
@@ -27,7 +31,8 @@ fn weighed(weights: &Weights, d: u64, j: usize, row: &[u32]) -> u32
     ensures { result ≡ weighted weights.now.parts d (entry_at row.now j) (entry_at row.now (j + 1)) (entry_at row.now (j + 2)) }
 {
     let w = weights.parts();
-    let sum = part(w.low, row, j) + part(w.level, row, j + 1) + part(w.high, row, j + 2);
+    let next = &row[j..j + 3];
+    let sum = part(w.low, next, 0) + part(w.level, next, 1) + part(w.high, next, 2);
     quotient(sum * 1_000, d)
 }
 

@@ -45,6 +45,18 @@ impl<'a> Tree<'a> {
         })
     }
 
+    // The same tests, and an answer that borrows nothing. Of what passes `new` makes the lattice as it stands.
+    pub fn check(
+        kind: Kind<Triple>,
+        steps: usize,
+        rates: &[u32],
+    ) -> Result<Kind<Weights>, LatticeFault>
+        ensures told { seen plain (told lattice_refusal result) ≡ lattice_check kind steps rates.now }
+        ensures same { IfOk result (λ k. built (plain k) steps rates.now ≡ supplied kind steps rates.now) }
+    {
+        check_all(kind, steps, rates)
+    }
+
     // The lattice on a table; on a refused one, of one step and a rate of 0.
     pub fn new(kind: Kind<Weights>, steps: usize, rates: &'a [u32]) -> Tree<'a>
         ensures { supplied (plain result.kind) result.last result.rates.now ≡ built (plain kind) steps rates.now }
