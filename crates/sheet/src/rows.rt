@@ -33,16 +33,15 @@ impl<L: Lattice, K: ClashRule> Valuation<'_, L, K> {
     }
 
     // What a right of step `t` pays at each node of that step.
-    pub(crate) fn right_amounts(&self, t: usize, right: Right) -> [u32; 129]
+    pub(crate) fn right_amounts(&self, t: usize, right: Right, row: &mut [u32; 129])
         requires { t + right.notice ≤ 64 }
-        ensures { (j : ℕ) → j < (L.Lattice.model self.now.lattice.now).count t → slice_index result j ≡ stream (L.Lattice.model self.now.lattice.now) self.now.terms.now self.now.spread right.price right.notice t j }
+        ensures { (j : ℕ) → j < (L.Lattice.model self.now.lattice.now).count t → slice_index row.new j ≡ stream (L.Lattice.model self.now.lattice.now) self.now.terms.now self.now.spread right.price right.notice t j }
     {
-        let mut row = [right.price; 129];
+        *row = [right.price; 129];
         let last = t + usize::from(right.notice);
         // by steps, which the lattice is asked for
         for u in (t..last).rev() {
-            self.roll_back(u, &mut row);
+            self.roll_back(u, row);
         }
-        row
     }
 }

@@ -1,5 +1,5 @@
 // The figures and marks of the nodes of one step.
-ghost use Rattle.std.specs.Prelude.{◌≡◌, ℕ, ◌<◌, ◌≤◌, slice_index};
+ghost use Rattle.std.specs.Prelude.{◌≡◌, ℕ, ◌<◌, ◌≤◌, option_copied, slice_index};
 ghost use Rattle.game.specs.Rule.{figure_of, mark_of, mark_number};
 ghost use Rattle.game.specs.Game.{amount, figure_from, mark_from};
 ghost use Rattle.sheet.specs.Steps.{paid, stepped_figure, stepped_mark};
@@ -18,33 +18,35 @@ pub(crate) struct Step {
 }
 
 // The amount at place `j`, where there is a right.
-fn amount_at(amounts: &Option<[u32; 129]>, j: usize) -> Option<u32>
+fn amount_at(amounts: Option<&[u32; 129]>, j: usize) -> Option<u32>
     requires { j < 129 }
-    ensures { result ≡ paid amounts.now j }
+    ensures { result ≡ paid (option_copied amounts.entry) j }
 {
-    amounts.as_ref().map(|row| row[j])
+    amounts.map(|row| row[j])
 }
 
 impl<L: Lattice, K: ClashRule> Valuation<'_, L, K> {
-    // What the right of a kind at step `t` pays at each node of that step, where there is one.
-    fn amounts(&self, kind: Kind, t: usize) -> Option<[u32; 129]>
-        ensures { (j : ℕ) → j < (L.Lattice.model self.now.lattice.now).count t → paid result j ≡ amount (L.Lattice.model self.now.lattice.now) self.now.terms.now self.now.spread kind t j }
+    // What the right of a kind at step `t` pays at each node of that step, where there is one. The row is lent, so
+    // that none is copied at each step.
+    fn amounts<'r>(&self, kind: Kind, t: usize, row: &'r mut [u32; 129]) -> Option<&'r [u32; 129]>
+        ensures { (j : ℕ) → j < (L.Lattice.model self.now.lattice.now).count t → paid (option_copied result) j ≡ amount (L.Lattice.model self.now.lattice.now) self.now.terms.now self.now.spread kind t j }
     {
         let right = self.terms.right(kind, t)?;
-        Some(self.right_amounts(t, right))
+        self.right_amounts(t, right, row);
+        Some(row)
     }
 
     // Decides each of the first `n` nodes: the step comes with the values of going on.
     fn decide(
         &self,
-        puts: &Option<[u32; 129]>,
-        calls: &Option<[u32; 129]>,
+        puts: Option<&[u32; 129]>,
+        calls: Option<&[u32; 129]>,
         n: usize,
         step: &mut Step,
     )
         requires { n ≤ 129 }
-        ensures figures { (j : ℕ) → j < n → slice_index step.new.figures j ≡ figure_of (K.ClashRule.settled self.now.clash.now) (paid puts.now j) (paid calls.now j) (slice_index step.old.figures j) }
-        ensures marks { (j : ℕ) → j < n → slice_index step.new.marks j ≡ mark_number (mark_of (paid puts.now j) (paid calls.now j) (slice_index step.old.figures j)) }
+        ensures figures { (j : ℕ) → j < n → slice_index step.new.figures j ≡ figure_of (K.ClashRule.settled self.now.clash.now) (paid (option_copied puts.entry) j) (paid (option_copied calls.entry) j) (slice_index step.old.figures j) }
+        ensures marks { (j : ℕ) → j < n → slice_index step.new.marks j ≡ mark_number (mark_of (paid (option_copied puts.entry) j) (paid (option_copied calls.entry) j) (slice_index step.old.figures j)) }
     {
         // one of the two by index: of a zip of both the proof would know nothing that is written
         let Step { figures, marks } = step;
@@ -61,10 +63,12 @@ impl<L: Lattice, K: ClashRule> Valuation<'_, L, K> {
         ensures figures { (j : ℕ) → j < (L.Lattice.model self.now.lattice.now).count t → slice_index step.new.figures j ≡ figure_from (L.Lattice.model self.now.lattice.now) (K.ClashRule.settled self.now.clash.now) self.now.terms.now self.now.spread (λ i. slice_index step.old.figures i) 1 t j }
         ensures marks { (j : ℕ) → j < (L.Lattice.model self.now.lattice.now).count t → slice_index step.new.marks j ≡ mark_from (L.Lattice.model self.now.lattice.now) (K.ClashRule.settled self.now.clash.now) self.now.terms.now self.now.spread (λ i. slice_index step.old.figures i) 1 t j }
     {
-        let puts = self.amounts(Kind::Put, t);
-        let calls = self.amounts(Kind::Call, t);
+        let mut lows = [0; 129];
+        let mut highs = [0; 129];
+        let puts = self.amounts(Kind::Put, t, &mut lows);
+        let calls = self.amounts(Kind::Call, t, &mut highs);
         self.roll_back(t, &mut step.figures);
-        self.decide(&puts, &calls, self.lattice.nodes(t), step);
+        self.decide(puts, calls, self.lattice.nodes(t), step);
     }
 
     // Works the last step: the redemption at each node, and nobody exercises.
