@@ -3,7 +3,6 @@ use Rattle.std.proofs.Common.{◌≡◌, ℕ, ◌/◌, ◌%◌, Bool, eqb, List,
 use Rattle.game.specs.declared.terms.Terms.{Terms}
 use Rattle.game.specs.declared.terms.Kind.TheVariants.{Call, Put}
 use Rattle.sheet.specs.declared.state.State.{State}
-use Rattle.sheet.specs.declared.draft.Draft.{Draft}
 use Rattle.sheet.specs.Edits.{opened}
 use Rattle.record.specs.declared.fault.RecordFault.{RecordFault}
 use Rattle.record.specs.declared.filling.Filling.{Filling}
@@ -63,16 +62,8 @@ module _ (n : ℕ) (src : List ℕ) where
       off = λ z. meant same (sym (stopped (field.of b.draft.state, b.reader.at) z refl) ∙ got);
     }
 
-  pub ended : {f : Filling} {r : Result Draft RecordFault} → Reached from_end f → r ≡ then (end_at f.reader.src.now f.reader.at) (λ _. Ok f.draft) → then {Y = Terms × ℕ} r (λ d. Ok (d.state.terms, d.state.spread)) ≡ decode n src
-  ended {f} at e =
-      ap (λ q. then {Y = Terms × ℕ} q (λ d. Ok (d.state.terms, d.state.spread))) e
-      ∙ way (end_at f.reader.src.now f.reader.at)
-      ∙ ap (λ l. then {Y = Terms × ℕ} (end_at l f.reader.at) (λ _. Ok (f.draft.state.terms, f.draft.state.spread))) at.kept
-      ∙ sym at.left
-    where
-      way : (q : Result (Unit {0}) RecordFault) → then {Y = Terms × ℕ} (then q (λ _. Ok f.draft)) (λ d. Ok (d.state.terms, d.state.spread)) ≡ then {Y = Terms × ℕ} q (λ _. Ok (f.draft.state.terms, f.draft.state.spread))
-      way (Ok u) = refl
-      way (Err d) = refl
+  pub ended : {f : Filling} {r : Result (Unit {0}) RecordFault} → Reached from_end f → r ≡ end_at f.reader.src.now f.reader.at → yields r (f.draft.state.terms, f.draft.state.spread) ≡ decode n src
+  ended {f} at e = ap (λ q. yields q (f.draft.state.terms, f.draft.state.spread)) (e ∙ ap (λ l. end_at l f.reader.at) at.kept) ∙ sym at.left
 
 pub same_bit : (a b : ℕ) → a % 2 ≡ b % 2 → odd a ≡ odd b
 same_bit a b e = ap (λ x. eqb x 1) e
