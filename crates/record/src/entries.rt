@@ -1,5 +1,5 @@
 // A list of a record: the entries of a table, by rising step.
-ghost use Rattle.std.specs.Prelude.{◌≡◌, ◌+◌, ◌<◌, ◌≤◌, length, is_some};
+ghost use Rattle.std.specs.Prelude.{◌≡◌, ◌+◌, ◌<◌, ◌≤◌, length, is_some, cond};
 ghost use Rattle.record.specs.Encode.{entries_of, list_bytes};
 
 use crate::cell::Cell;
@@ -24,12 +24,12 @@ impl<'a, const N: usize, C: Cell<N>> Entries<'a, N, C> {
     {
         let count = table
             .iter()
-            .filter(
-                |cell: &&C| -> bool
-                    ensures { result ≡ is_some (C.held cell.now.now) }
-                { cell.entry().is_some() },
+            .map(
+                |cell: &C| -> usize
+                    ensures { result ≡ cond (is_some (C.held cell.now)) 1 0 }
+                { usize::from(cell.entry().is_some()) },
             )
-            .count();
+            .sum();
         Entries { table, count }
     }
 
@@ -50,11 +50,9 @@ impl<'a, const N: usize, C: Cell<N>> Field for Entries<'a, N, C> {
     ghost field_bytes = { λ l. list_bytes C.entry_bytes (entries_of C.held 0 l.table.now) };
 
     fn size(&self) -> usize {
-        if self.count > 0 {
-            1 + N * self.count
-        } else {
-            0
-        }
+        // The test has a name, so that the proof cites it and not the way it is written.
+        let some = self.count > 0;
+        if some { 1 + N * self.count } else { 0 }
     }
 
     fn put(&self, writer: &mut Writer) {
