@@ -1,8 +1,11 @@
 -- The pieces of a text, and what the library's `split` gives. Assumes nothing.
-use Rattle.std.proofs.Common.{◌≡◌, ℕ, ◌+◌, ◌<◌, ◌≤◌, Bool, true, false, cond, not, eqb, ltb, List, [], ◌∷◌, ◌++◌, length, take, Some, None, Option, refl, ap, ◌∙◌, arith}
+use Rattle.std.proofs.Common.{◌≡◌, ℕ, ◌+◌, ◌<◌, ◌≤◌, Bool, true, false, cond, not, eqb, ltb, List, [], ◌∷◌, ◌++◌, length, take, drop, Some, None, Option, sym, refl, ap, ◌∙◌, arith}
 use Rattle.std.proofs.lemmas.Grind.{common_steps}
+use Rattle.std.proofs.lemmas.Bool.{cond-true}
 use Rattle.std.proofs.lemmas.Bool.Decides.{nat_tests}
+use Rattle.std.proofs.lemmas.List.{drop_all}
 use Rattle.std.proofs.lemmas.List.Sums.{prefix_len-le-length}
+use Rattle.std.proofs.lemmas.Option.{cond_some}
 use Rattle.std.specs.List.{slice_split, onto_first, position_or_len, prefix_len, filter}
 use Rattle.std.specs.Option.{unwrap_or}
 use mathlib.Core.Logic.{◌⊎◌, inl, inr}
@@ -78,3 +81,25 @@ filled_is ((b ∷ p) ∷ ps) = grind (arith, common_steps, filled_is ps)
 
 pub words_split : (f : ℕ → Bool) (bs : List ℕ) → filter (λ (p : List ℕ). not (eqb (length p) 0)) (slice_split f bs) ≡ filled (pieces f bs)
 words_split f bs = of_split (filter some) some_end f bs ∙ filled_is (pieces f bs)
+
+drop_cons : (b n : ℕ) (bs : List ℕ) → drop (1 + n) (b ∷ bs) ≡ drop n bs
+drop_cons b n bs = grind (arith, common_steps)
+
+-- marks in front bound no word
+past_marks : (f : ℕ → Bool) (bs : List ℕ) → filled (pieces f (drop (position_or_len (λ b. not (f b)) bs) bs)) ≡ filled (pieces f bs)
+past_marks f [] = refl
+past_marks f (b ∷ bs) =
+    elim (f b) as (λ t. f b ≡ t → filled (pieces f (drop (cond (not (not t)) (1 + prefix_len (λ x. not (not (f x))) bs) 0) (b ∷ bs))) ≡ filled (pieces f (b ∷ bs))) [
+      | true ↦ λ e. ap (λ (l : List ℕ). filled (pieces f l)) (drop_cons b (prefix_len (λ x. not (not (f x))) bs) bs) ∙ past_marks f bs ∙ sym (ap filled (cond-true _ _ _ e))
+      | false ↦ λ e. refl
+    ] refl
+
+-- o is the place that `position` finds for the first byte that is no mark
+module _ (f : ℕ → Bool) (bs : List ℕ) (o : Option ℕ) (e : o ≡ cond (ltb (position_or_len (λ b. not (f b)) bs) (length bs)) (Some (position_or_len (λ b. not (f b)) bs)) None) where
+  pub marks_alone : o ≡ None → [] ≡ filled (pieces f bs)
+  marks_alone none =
+      let end : length bs ≤ position_or_len (λ b. not (f b)) bs = grind (arith, nat_tests, sym e ∙ none) in
+      ap (λ (l : List ℕ). filled (pieces f l)) (sym (drop_all _ bs end)) ∙ past_marks f bs
+
+  pub past_first : (i : ℕ) → o ≡ Some i → filled (pieces f (drop i bs)) ≡ filled (pieces f bs)
+  past_first i some = ap (λ (n : ℕ). filled (pieces f (drop n bs))) (sym (cond_some _ _ _ (sym e ∙ some)).1) ∙ past_marks f bs

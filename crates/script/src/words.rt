@@ -9,7 +9,12 @@ use std::alloc::{AllocError, Global};
 pub fn words_of<'a>(heap: Global, line: &'a [u8]) -> Result<Vec<&'a [u8]>, AllocError>
     ensures { IfOk result (λ v. texts v.items ≡ words_of line.now) }
 {
-    before_mark(line, Mark::Comment)
+    let text = before_mark(line, Mark::Comment);
+    // blanks in front are passed over at once: `split` would make a piece of each
+    let Some(first) = text.iter().position(|byte| !Mark::Blank.is(*byte)) else {
+        return Ok(Vec::new(heap));
+    };
+    text[first..]
         .split(|byte| Mark::Blank.is(*byte))
         .filter(|word| !word.is_empty())
         .collect(heap)

@@ -1,32 +1,14 @@
-use Rattle.std.proofs.Common.{◌≡◌, ℕ, None, Some, rules, tests, List, sym, ◌∙◌, subst}
-use Rattle.std.proofs.lemmas.Option.{MatchOption-at_some, MatchOption-at_none}
-use Rattle.std.specs.Str.Parse.{ParsesUnsigned}
-use Rattle.std.specs.Str.{IsValidUpTo, valid_up_to}
-use Rattle.std.specs.List.{list_all}
-use Rattle.std.proofs.lemmas.Iterator.{YieldsList-from_slice}
-use Rattle.std.proofs.lemmas.Iterator.Search.{all_from_yields_List}
-use Rattle.script.specs.Numbers.{is_digit}
-use Rattle.script.proofs.Digits.{other_byte, parsed, text_there}
+use Rattle.std.proofs.Common.{◌≡◌, ℕ, ◌^◌, ◌*◌, ◌+◌, ◌<◌, ◌≤◌, false, Ok, Err, Result, sym, ◌∙◌, arith}
+use Rattle.std.specs.Result.{OkIff, is_ok}
+use Rattle.script.proofs.Digits.{too_large}
 use Rattle.script.proofs.numbers.number.Goals as goal
-use Rattle.script.proofs.numbers.number.Goals.{After-all}
 
-tested : (c : After-all) → c.all.result ≡ list_all is_digit c.args.word.now
-tested c = all_from_yields_List is_digit _ _ _ c.all.ensures.ran (YieldsList-from_slice c.args.word.now c.iter.ensures.rest) (λ x b q k. search (rules, tests))
+unfit : {E : Type 0} (r : Result ℕ E) (n : ℕ) → OkIff r (n < 2 ^ 32) n → false ≡ is_ok r → 2 ^ 32 ≤ n
+unfit (Ok x) n h e = absurd (cc)
+unfit (Err x) n h e = omega (arith, h)
 
-pub returns-then-not-all : goal.returns-then-not-all
-returns-then-not-all c = other_byte c.args.word.now (sym (tested (goal.at.returns-then-not-all c).After-all) ∙ c.if-not-all.true)
-
-pub returns-in_err-ok : goal.returns-in_err-ok
-returns-in_err-ok c =
-    let digits = sym (tested (goal.at.returns-in_err-ok c).After-all) ∙ c.if-not-all.false in
-    let was : c.ok.result ≡ None = c.in_err-ok.was in
-    absurd (MatchOption-at_none ⊥ (λ s. s.now ≡ c.args.word.now) (sym c.ok.ensures.value ∙ was) (text_there c.args.word.now (λ e. IsValidUpTo c.args.word.now (valid_up_to e)) c.from_utf8.result digits c.from_utf8.ensures.cases))
-
-pub returns : goal.returns
-returns c =
-    let digits = sym (tested (goal.at.returns c).After-all) ∙ c.if-not-all.false in
-    let was : c.ok.result ≡ Some c.in_ok-ok.field-0 = c.in_ok-ok.was in
-    let text =
-    MatchOption-at_some ⊥ (λ s. s.now ≡ c.args.word.now) c.in_ok-ok.field-0 (sym c.ok.ensures.value ∙ was)
-    (text_there c.args.word.now (λ e. IsValidUpTo c.args.word.now (valid_up_to e)) c.from_utf8.result digits c.from_utf8.ensures.cases) in
-    c.ok-2.ensures.value ∙ parsed c.args.word.now c.parse.result digits (subst (λ (bs : List ℕ). ParsesUnsigned 32 10 bs c.parse.result) text c.parse.ensures.value.0)
+pub returns-in_err-value : goal.returns-in_err-value
+returns-in_err-value c =
+    let over : 2 ^ 32 ≤ c.loop-byte.value * 10 + c.in_ok-digit.digit = omega (arith, unfit c.try_from.result _ c.try_from.ensures c.in_err-value.ensures.variant, c.from.ensures, c.from-in-loop-byte.ensures) in
+    c.from_residual-in_err-value.ensures
+    ∙ too_large c.args.word.now c.loop-byte.byte-index c.loop-byte.value c.loop-byte.invariant c.loop-byte-test.true c.in_ok-digit.digit (sym c.digit.ensures ∙ c.in_ok-digit.was) over
